@@ -1,0 +1,4 @@
+pub mod HouseTable
+pub mod Nearest
+pub mod Places
+pub mod Scaling
