@@ -1,0 +1,9 @@
+pub mod Bytes
+pub mod Causes
+pub mod Fields
+pub mod FieldsLeft
+pub mod Forms
+pub mod Lines
+pub mod LinesLeft
+pub mod Marks
+pub mod Numerals
