@@ -1,0 +1,5 @@
+pub mod Bands
+pub mod Panels
+pub mod Firsts
+pub mod Nearest
+pub mod Tries

@@ -1,0 +1,5 @@
+pub mod Single
+pub mod Traces
+pub mod Right
+pub mod Orders
+pub mod Replies

@@ -1,0 +1,11 @@
+pub mod Refusals
+pub mod Boxes
+pub mod Account
+pub mod Words
+pub mod Runs
+pub mod Moments
+pub mod Law
+pub mod Orderly
+pub mod Computed
+pub mod Theorems
+pub mod Examples
