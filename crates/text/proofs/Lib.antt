@@ -1,0 +1,4 @@
+pub mod Advances
+pub mod HeldSums
+pub mod Laying
+pub mod Measuring

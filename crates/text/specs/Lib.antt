@@ -1,0 +1,4 @@
+pub mod Fault
+pub mod Measure
+pub mod Run
+pub mod Text
