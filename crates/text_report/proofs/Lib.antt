@@ -1,0 +1,7 @@
+pub mod Counts
+pub mod Outcomes
+pub mod ManyTexts
+pub mod Memory
+pub mod OneText
+pub mod Printed
+pub mod Widths

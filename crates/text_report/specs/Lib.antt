@@ -1,0 +1,9 @@
+pub mod Faults
+pub mod Headings
+pub mod Law
+pub mod Measures
+pub mod Onward
+pub mod Printing
+pub mod Reading
+pub mod Report
+pub mod Stops
