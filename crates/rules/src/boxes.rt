@@ -1,4 +1,6 @@
-// The records of a sheet's list of boxes.
+// The records of a sheet's list of boxes, and what they come to.
+ghost use mathlib.Core.Path.{_≡_};
+ghost use Rattle.rules.specs.Boxes.{totals-of};
 use shapes::sides::Side;
 
 // A panel's box: the units x to x + width - 1 of the rows y to y + height - 1.
@@ -32,4 +34,27 @@ pub struct Totals {
     pub panels: u64,
     pub lines: u64,
     pub words: u64,
+}
+
+// What a list of boxes comes to.
+pub fn totalled(boxes: &[BoxRecord]) -> Totals
+    ensures { λ r. ⌜ r ≡ totals-of (now (boxes .entry)) ⌝ }
+{
+    let mut panels = 0u64;
+    let mut lines = 0u64;
+    let mut words = 0u64;
+    for record in boxes {
+        match record {
+            BoxRecord::Panel(_) => panels = panels.saturating_add(1),
+            BoxRecord::Line(line) => {
+                lines = lines.saturating_add(1);
+                words = words.saturating_add(u64::from(line.words));
+            }
+        }
+    }
+    Totals {
+        panels,
+        lines,
+        words,
+    }
 }

@@ -1,0 +1,3 @@
+-- The lemmas behind the contracts, concept by concept.
+pub mod Laws
+pub mod Bands

@@ -1,0 +1,11 @@
+pub mod Cleared
+pub mod Moves
+pub mod Opens
+pub mod Panels
+pub mod Lines
+pub mod Ends
+pub mod Flows
+pub mod Fits
+pub mod Stretches
+pub mod Fresh
+pub mod Parts
