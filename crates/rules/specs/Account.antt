@@ -4,6 +4,7 @@
 --     scene A p       what a panel or a word of the paragraph p is judged against
 --     early-..        the refusals of a call that are judged before its work, in their order
 --     with-..         the account after a call that is done
+--     open-line z A   the box that the open line would have if it closed now, if there is one
 use mathlib.Core.Bool.{Bool, true, false, not, _&&_}
 use mathlib.Core.List.{List, [], _∷_}
 use Prim.Native.Nat.{ℕ, _+_, max}
@@ -21,6 +22,7 @@ use Rattle.places.specs.Permitted.{Rows, Scene, Wanted, put}
 use Rattle.places.specs.Tried.{bottoms}
 use Rattle.rules.specs.declared.boxes.BoxRecord.{BoxRecord}
 use Rattle.rules.specs.declared.boxes.BoxRecord.the-variants as B
+use Rattle.rules.specs.declared.boxes.LineBox.{LineBox}
 use Rattle.rules.specs.declared.paragraphs.Paragraph.{Paragraph}
 use Rattle.rules.specs.declared.refusals.Refusal.{Refusal}
 use Rattle.rules.specs.declared.refusals.Refusal.the-variants.{NoParagraph, AlreadyOpen, WrongSlip, BadMargins, WidePanel, ListFull, ManyParagraphs}
@@ -121,9 +123,21 @@ with-panel A o x y = record {
   current = A .current;
 }
 
--- a line's box begins at its band's left edge as it is when the line closes
+-- the box that an open line would have if it closed now: it begins at its band's left edge as that is now
+abbrev pub box-now : Size → Account → Paragraph → Line → LineBox
+box-now z A p l = record { x = band (p .margins) (A .placed) (l .top) (z .line) .from; y = l .top; width = l .used; words = l .words }
+
 abbrev pub line-box : Size → Account → Paragraph → Line → BoxRecord
-line-box z A p l = B.Line (record { x = band (p .margins) (A .placed) (l .top) (z .line) .from; y = l .top; width = l .used; words = l .words })
+line-box z A p l = B.Line (box-now z A p l)
+
+-- that of the open line, if there is one
+abbrev pub shown-line : Size → Account → Option Paragraph → Option Line → Option LineBox
+shown-line z A (Some p) (Some l) = Some (box-now z A p l)
+shown-line z A (Some p) None = None
+shown-line z A None o = None
+
+abbrev pub open-line : Size → Account → Option LineBox
+open-line z A = shown-line z A (A .para) (A .current)
 
 abbrev pub shut-boxes : Size → Account → Paragraph → Option Line → List BoxRecord
 shut-boxes z A p (Some l) = line-box z A p l ∷ A .boxes

@@ -2,13 +2,17 @@
 --     Past z es s      the calls es, with these answers, came to s since it was new, and s holds their account
 --     Lawful z es      the law holds of the calls es: each panel and each line was the best, and nothing else was answered
 --     Tells c a s t    whatever calls came before: with the call c, answered by a, t holds the account of them all, and the law holds of them all
+--     Shows r s        r is the open line as it is now, of the account of all calls before
+--     Lists bs s       bs are the boxes of the account of all calls before, the oldest first
 --     Ever s           with no premise: some calls, refused ones among them, led to s from a new sheet, and the law holds of them
-use mathlib.Core.List.{List, _∷_}
+use mathlib.Core.Path.{_≡_}
+use mathlib.Core.List.{List, _∷_, reverse}
 use Prim.Native.Nat.{ℕ}
 use denote.Ref.{now}
 use lib.ListN.{take}
 use Rattle.rules.specs.declared.boxes.BoxRecord.{BoxRecord}
-use Rattle.rules.specs.Account.{Size, Account}
+use Rattle.rules.specs.declared.boxes.LineBox.{LineBox}
+use Rattle.rules.specs.Account.{Size, Account, open-line}
 use Rattle.rules.specs.Runs.{Call, Answer, Event, event, Run}
 use Rattle.rules.specs.Law.{Right}
 use Rattle.sheet.specs.declared.sheet.Sheet.{Sheet}
@@ -39,3 +43,9 @@ Tells c a s t = (z : Size) (past : List Event) → Past z past s → Past z (eve
 
 abbrev pub Ever : Sheet → Type 0
 Ever s = ∥ record { size : Size; past : List Event; kept : Past size past s; lawful : Lawful size past } ∥₁
+
+abbrev pub Shows : Option LineBox → Sheet → Type 0
+Shows r s = (z : Size) (past : List Event) (told : Past z past s) → r ≡ open-line z (told .account)
+
+abbrev pub Lists : List BoxRecord → Sheet → Type 0
+Lists bs s = (z : Size) (past : List Event) (told : Past z past s) → bs ≡ reverse (told .account .boxes)

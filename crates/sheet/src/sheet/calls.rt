@@ -14,7 +14,7 @@ ghost use Rattle.rules.specs.Runs.{opens, flows, panels, ends};
 ghost use Rattle.sheet.specs.View.{Rest};
 ghost use Rattle.sheet.specs.Fresh.{new-refusal, new-size, cells-used};
 ghost use Rattle.sheet.specs.Stores.{open-answer, panel-answer, flow-answer, end-answer, advances-in};
-ghost use Rattle.sheet.specs.Sheets.{fields, open-number, boxes-in, Past, Tells, Ever};
+ghost use Rattle.sheet.specs.Sheets.{fields, open-number, boxes-in, Past, Tells, Ever, Shows, Lists};
 use super::Sheet;
 use crate::answers::Flowed;
 use crate::slips::Slip;
@@ -23,6 +23,7 @@ use places::parts::Place;
 use places::parts::Span;
 use reaches::reach::Reach;
 use rules::boxes::BoxRecord;
+use rules::boxes::LineBox;
 use rules::boxes::Totals;
 use rules::boxes::totalled;
 use rules::refusals::Refusal;
@@ -101,9 +102,17 @@ impl<'a> Sheet<'a> {
         self.store.end(slip)
     }
 
+    // The open line, as the box that it would have if it closed now.
+    pub fn open_line(&self) -> Option<LineBox>
+        ensures { λ r. ⌜ Shows r (now (self .entry)) ⌝ }
+    {
+        self.store.open_line()
+    }
+
     // The boxes of the list, the oldest first. An open line has none yet.
     pub fn boxes(&self) -> &[BoxRecord]
-        ensures { λ r. ⌜ now r ≡ boxes-in (now (self .entry)) ⌝ }
+        ensures list { λ r. ⌜ now r ≡ boxes-in (now (self .entry)) ⌝ }
+        ensures account { λ r. ⌜ Lists (now r) (now (self .entry)) ⌝ }
     {
         self.store.boxes()
     }

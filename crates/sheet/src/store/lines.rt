@@ -11,7 +11,7 @@ ghost use Rattle.rules.specs.Account.{reserved};
 ghost use Rattle.text.specs.Measure.{FitAdvance};
 ghost use Rattle.sheet.specs.View.{Fit, Fit-list, Fit-open, Rest, start-of};
 ghost use Rattle.sheet.specs.Told.{WordTold};
-ghost use Rattle.sheet.specs.Steps.{Joined, Closed};
+ghost use Rattle.sheet.specs.Steps.{Joined, Closed, Open};
 ghost use Rattle.sheet.specs.Stores.{view};
 use crate::store::Store;
 use places::parts::Line;
@@ -65,6 +65,22 @@ impl<'a> Store<'a> {
             self.cursor = words.top + line;
             self.current = None;
         }
+    }
+
+    // The open line, as the box that it would have if it closed now.
+    pub(crate) fn open_line(&self) -> Option<LineBox>
+        requires { ⌜ Fit (view (now self)) ⌝ }
+        ensures { λ r. ⌜ Open (view (now (self .entry))) r ⌝ }
+    {
+        let para = self.para?;
+        let words = self.current?;
+        let band = self.rows.band(para.margins, words.top, self.line);
+        Some(LineBox {
+            x: band.from,
+            y: words.top,
+            width: words.used,
+            words: words.words,
+        })
     }
 
     // The open line with a word of this advance joined to it, if it fits.
