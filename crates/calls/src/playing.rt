@@ -148,7 +148,7 @@ fn lay_out(
 }
 
 // What is printed of a script: a line for each of its lines. The one other answer is that there is no memory left.
-pub fn play(heap: Global, script: &[u8]) -> Result<String, AllocError> {
+pub(crate) fn play(heap: Global, script: &[u8]) -> Result<String, AllocError> {
     let mut lines = Lines::new(script);
     let mut out = String::new(heap);
     if let Some(size) = skip(heap, &mut lines, &mut out)? {
