@@ -6,8 +6,8 @@ use Rattle.segment_tree.proofs.runs.climb.Goals as goal
 pub loop-width-preserved-then-node-eq0 : goal.loop-width-preserved-then-node-eq0
 loop-width-preserved-then-node-eq0 g c = up c.loop-width.invariant c.if-node-eq0.true
 
-pub offset-bounds-cells-node : goal.offset-bounds-cells-node
-offset-bounds-cells-node g c =
+pub offset_bounds-cells-node : goal.offset_bounds-cells-node
+offset_bounds-cells-node g c =
     let lt = node_lt c.loop-width.invariant c.requires.order.1 (omega arith) in
     let long = c.requires.agrees.long in
     omega arith
@@ -27,8 +27,8 @@ returns-then-not-within g c =
           (sym c.within.ensures ∙ c.if-not-within.true);
     }
 
-pub overflow-add-node-else-node-eq0 : goal.overflow-add-node-else-node-eq0
-overflow-add-node-else-node-eq0 g c =
+pub overflow_add-node-else-node-eq0 : goal.overflow_add-node-else-node-eq0
+overflow_add-node-else-node-eq0 g c =
     let lt = node_lt c.loop-width.invariant c.requires.order.1 (omega arith) in
     let long = c.requires.agrees.long in
     omega arith

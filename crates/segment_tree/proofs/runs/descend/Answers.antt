@@ -5,14 +5,14 @@ use Rattle.segment_tree.specs.Walk.{Stuck}
 use Rattle.segment_tree.proofs.Climbs.{node_lt, node_le, wide_pos, down, half, blocked, along, longest}
 use Rattle.segment_tree.proofs.runs.descend.Goals as goal
 
-pub overflow-mul-node : goal.overflow-mul-node
-overflow-mul-node g c =
+pub overflow_mul-node : goal.overflow_mul-node
+overflow_mul-node g c =
     let le = node_le (down c.loop-width.invariant.0 c.loop-width-test.true) in
     let long = c.requires.agrees.long in
     search rules
 
-pub offset-bounds-cells-node : goal.offset-bounds-cells-node
-offset-bounds-cells-node g c =
+pub offset_bounds-cells-node : goal.offset_bounds-cells-node
+offset_bounds-cells-node g c =
     let lt = node_lt (down c.loop-width.invariant.0 c.loop-width-test.true) c.requires.order.1 (omega arith) in
     let long = c.requires.agrees.long in
     omega arith
@@ -23,8 +23,8 @@ bounds-cells-node g c =
     let long = c.requires.agrees.long in
     omega arith
 
-pub overflow-add-node : goal.overflow-add-node
-overflow-add-node g c =
+pub overflow_add-node : goal.overflow_add-node
+overflow_add-node g c =
     let lt = node_lt (down c.loop-width.invariant.0 c.loop-width-test.true) c.requires.order.1 (omega arith) in
     let long = c.requires.agrees.long in
     search rules
