@@ -1,4 +1,4 @@
-use Rattle.std.proofs.Common.{◌≡◌, ℕ, ◌<◌, List, length, get_or, sym, refl, subst, arith}
+use Rattle.std.proofs.Common.{◌≡◌, ℕ, List, length, get_or, sym, refl, subst, arith}
 use Rattle.metrics.specs.Width.{FitWidth, FitWidths}
 use Rattle.metrics.proofs.tables.Table.new.Goals as goal
 
