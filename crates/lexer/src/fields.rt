@@ -61,7 +61,7 @@ impl<'a> Fields<'a> {
 
     // The worth of the field at hand, which must be there and of this kind; the cursor moves past it.
     pub fn take<K: Kind>(&mut self, kind: &K) -> Result<K::Value, Fault>
-        ensures value { result ≡ read_at self.old (worth kind.now) (fails kind.now) }
+        ensures value { result ≡ read_at self.old (K.worth kind.now) (K.fails kind.now) }
         ensures stepped { Stepped self.old self.new }
     {
         let missing = self.fault(Cause::Field);

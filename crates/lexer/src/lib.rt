@@ -1,4 +1,5 @@
 // The lines of a file and the fields of a line, by place. Nothing here knows what a line means.
+#![tactic(auto)]
 
 // What a field can be refused for, and where it stands.
 pub mod faults;

@@ -2,17 +2,17 @@ use Rattle.std.proofs.Common.{rules}
 use Rattle.lexer.specs.Numerals.{numeral}
 use Rattle.lexer.proofs.numerals.number.Goals as goal
 
-pub returns-then-is-empty : goal.returns-then-is-empty
+pub returns-then-is_empty : goal.returns-then-is_empty
 unfolding numeral
-returns-then-is-empty c = search rules
+returns-then-is_empty c = search rules
 
 pub returns-then-bytes-gt1 : goal.returns-then-bytes-gt1
 unfolding numeral
 returns-then-bytes-gt1 c = search rules
 
-pub returns-in-err-value : goal.returns-in-err-value
+pub returns-in_err-value : goal.returns-in_err-value
 unfolding numeral
-returns-in-err-value c = search rules
+returns-in_err-value c = search rules
 
 pub returns-then-value-gt-LARGEST : goal.returns-then-value-gt-LARGEST
 unfolding numeral

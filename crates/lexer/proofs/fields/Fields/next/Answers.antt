@@ -11,13 +11,13 @@ returns-then-self c =
     let m = field_missing line p (width_past line p (omega arith)) in
     record { value = m.0; stepped = record { line = refl; ended = refl; place = m.1 } }
 
-pub returns-then-is-empty : goal.returns-then-is-empty
-returns-then-is-empty c =
+pub returns-then-is_empty : goal.returns-then-is_empty
+returns-then-is_empty c =
     let line = c.args.self.now.line.now in
     let p = c.args.self.now.place in
     let e = c.run-width.ensures.value ∙ width_rest line p in
     let short = length-take-le _ _ c.run-width.ensures.within in
-    let empty = eqb-true _ _ (sym c.if-is-empty.ensures) in
+    let empty = eqb-true _ _ (sym c.if-is_empty.ensures) in
     let m = field_missing line p (sym e ∙ sym short ∙ empty) in
     record { value = m.0; stepped = record { line = refl; ended = refl; place = m.1 } }
 
@@ -27,6 +27,6 @@ returns c =
     let p = c.args.self.now.place in
     let e = c.run-width.ensures.value ∙ width_rest line p in
     let short = length-take-le _ _ c.run-width.ensures.within in
-    let some = eqb-false _ _ (sym c.if-is-empty.ensures) in
+    let some = eqb-false _ _ (sym c.if-is_empty.ensures) in
     let t = field_there line p c.run-width.result e (λ z. some (short ∙ z)) in
     record { value = t.0; stepped = record { line = refl; ended = refl; place = t.1 } }

@@ -6,8 +6,8 @@ use Rattle.shapes.specs.Theorems.{no_step}
 use Rattle.shapes.specs.declared.stairs.Step.{Step}
 use Rattle.shapes.proofs.stairs.steps.rows_of.Goals as goal
 
-pub overflow-add-rows : goal.overflow-add-rows
-overflow-add-rows c = omega arith
+pub overflow_add-rows : goal.overflow_add-rows
+overflow_add-rows c = omega arith
 
 pub loop-step-preserved : goal.loop-step-preserved
 loop-step-preserved c =
