@@ -1,6 +1,5 @@
 -- What is rounded is the nearest number of units, and the only one. Assumes nothing.
-use Rattle.std.proofs.Common.{◌≡◌, ℕ, ◌+◌, ◌*◌, ◌<◌, ◌≤◌, sym, ⊎_elim, le_antisymm, arith}
-use Rattle.std.proofs.lemmas.Bool.{cases_lt}
+use Rattle.std.proofs.Common.{◌≡◌, ℕ, ◌+◌, ◌*◌, ◌<◌, ◌≤◌, sym, le_antisymm, arith}
 use Rattle.metrics.specs.Rounding.{rounded, gap, Nearest, RoundingIsNearest}
 
 -- n is nearest to what lies from half a unit below it up to, and without, half a unit above it

@@ -1,4 +1,6 @@
 // The advances of bytes, in whole units: what a metrics is, one advance for all bytes, and a table of widths at a size.
+#![tactic(auto)]
+
 ghost use Rattle.std.specs.Prelude.{◌≡◌};
 ghost use Rattle.metrics.specs.Refusal.{unfit};
 

@@ -1,4 +1,5 @@
 // Where the words of a text are, and which bytes a text may hold.
+#![tactic(auto)]
 
 // The words of a text, one after another.
 pub mod spans;

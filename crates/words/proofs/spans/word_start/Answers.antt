@@ -6,13 +6,13 @@ use Rattle.words.proofs.spans.word_start.Goals as goal
 
 pub loop-start-preserved : goal.loop-start-preserved
 loop-start-preserved c =
-    run_on blank c.args.text.now c.loop-start.start c.loop-start-test.true (ap not (sym c.if-not-is-ink.ensures))
+    run_on blank c.args.text.now c.loop-start.start c.loop-start-test.true (ap not (sym c.if-not-is_ink.ensures))
     ∙ c.loop-start.invariant
 
-pub returns-else-not-is-ink : goal.returns-else-not-is-ink
-returns-else-not-is-ink c =
+pub returns-else-not-is_ink : goal.returns-else-not-is_ink
+returns-else-not-is_ink c =
     let text = c.args.text.now in
-    let is = run_out blank text c.loop-start.start c.loop-start-test.true (ap not (sym c.if-not-is-ink.ensures)) ∙ c.loop-start.invariant in
+    let is = run_out blank text c.loop-start.start c.loop-start-test.true (ap not (sym c.if-not-is_ink.ensures)) ∙ c.loop-start.invariant in
     record { start = is; none = λ over. none_left text c.args.from (omega arith) }
 
 pub returns-after-loop-start : goal.returns-after-loop-start
