@@ -1,4 +1,6 @@
 // Shapes of panels: what a shape answers, the plain box, the staircase, and an order for a panel.
+#![tactic(auto)]
+
 ghost use Rattle.shapes.specs.Form.{Form, Real};
 ghost use Rattle.std.specs.Prelude.{◌≡◌};
 

@@ -9,8 +9,8 @@ loop-record-preserved c =
     let bs = c.args.boxes.now in
     let l = c.loop-record in
     elim c.match-record.branch [
-      | in-Panel w ↦ counted_panel bs l.record-index l.panels l.lines l.words _ c.loop-record-test.true l.invariant w.in-Panel.field-0 _ _ _ w.in-Panel.is (w.panels-is ∙ w.saturating-add-panels.ensures) w.lines-is w.words-is
-      | in-Line w ↦ counted_line bs l.record-index l.panels l.lines l.words _ c.loop-record-test.true l.invariant w.in-Line.line _ _ _ w.in-Line.is w.panels-is (w.lines-is ∙ w.saturating-add-lines.ensures) (w.words-is ∙ w.saturating-add-words.ensures ∙ ap (λ n. held (l.words + n)) w.from.ensures)
+      | in-Panel w ↦ counted_panel bs l.record-index l.panels l.lines l.words _ c.loop-record-test.true l.invariant w.in-Panel.field-0 _ _ _ w.in-Panel.is (w.panels-is ∙ w.saturating_add-panels.ensures) w.lines-is w.words-is
+      | in-Line w ↦ counted_line bs l.record-index l.panels l.lines l.words _ c.loop-record-test.true l.invariant w.in-Line.line _ _ _ w.in-Line.is w.panels-is (w.lines-is ∙ w.saturating_add-lines.ensures) (w.words-is ∙ w.saturating_add-words.ensures ∙ ap (λ n. held (l.words + n)) w.from.ensures)
     ]
 
 pub returns : goal.returns
