@@ -2,7 +2,7 @@
 use Rattle.std.proofs.Common.{◌≡◌, ℕ, ◌+◌, ◌-◌, ◌*◌, ◌^◌, ◌<◌, ◌≤◌, Bool, true, false, cond, ◌&&◌, eqb, ltb, leb, List, [], ◌∷◌, length, get_or, Some, None, decimal, Option, sym, refl, ap, ◌∙◌, ⊎_elim, arith, rules}
 use Rattle.std.proofs.lemmas.Str.Parse.{IsNumeralModel, numerals_by_fold}
 use Rattle.std.proofs.lemmas.Fmt.{digits_decimal, digits_value-decimal, length-decimal-le, decimal_nonempty, first_decimal, decimal_digit, decimal-digits_value}
-use Rattle.std.proofs.lemmas.Bool.{cond-true, cond-false, cases_lt, cases_Bool, le-leb, le-ltb, lt-ltb, ne_eqb, eq-eqb, and_from, and_left, and_right, leb-true, ltb-false, eqb-false}
+use Rattle.std.proofs.lemmas.Bool.{cond-true, cond-false, cases_lt, le-leb, le-ltb, lt-ltb, ne_eqb, eq-eqb, and_from, and_left, and_right, leb-true, ltb-false, eqb-false}
 use Rattle.lexer.specs.Numerals.{digit, reads, capped, padded, numeral, largest, most_digits, NumeralsStand}
 
 abbrev all_digits : List ℕ → Bool

@@ -5,7 +5,7 @@
 --     Lined ls       no line holds a line end; all are ended but perhaps the last, and an unended one is not empty
 --     LinesStand    file_lines f is the one list that is Lined and is written f
 use Rattle.std.specs.Prelude.{◌≡◌, ℕ, ◌<◌, Bool, true, false, cond, List, [], ◌∷◌, ◌++◌, length, ◌==◌, ◌≢◌}
-use Rattle.std.specs.List.{AllByRecursion as All}
+use Rattle.std.specs.List.{AllByRecursion}
 use Rattle.lexer.specs.Bytes.{line_end}
 
 pub record FileLine : Type 0 where
@@ -34,7 +34,7 @@ written (l ∷ ls) = l.bytes ++ ended_by l.ended (written ls)
 
 -- no byte among these is a line end
 abbrev pub Unbroken : List ℕ → Type 0
-Unbroken bs = All (λ b. b ≢ line_end) bs
+Unbroken bs = AllByRecursion (λ b. b ≢ line_end) bs
 
 abbrev pub Lined : List FileLine → Type 0
 Lined [] = Unit {0}

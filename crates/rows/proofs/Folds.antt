@@ -1,6 +1,6 @@
 -- Rows that tell panels fold to the panels' reaches. Assumes nothing.
 use Rattle.std.proofs.Common.{◌≡◌, ℕ, zero, suc, ◌+◌, ◌≤◌, List, [], length, get_or, replicate, ap, ◌∙◌, ap₂, arith}
-use lib.ListN.{get_or-replicate}
+use Rattle.std.proofs.lemmas.List.{get_or-replicate}
 use Rattle.segment_tree.specs.Joins.{fold_of}
 use Rattle.segment_tree.specs.Trees.{elements}
 use Rattle.segment_tree.proofs.Spans.{fold_none, fold_cat, fold_one}

@@ -1,14 +1,14 @@
 -- Every account of a run is orderly. Assumes nothing.
-use Rattle.std.proofs.Common.{◌≡◌, ℕ, ◌+◌, ◌<◌, ◌≤◌, Bool, true, false, cond, not, ◌&&◌, ltb, leb, List, [], ◌∷◌, length, is_some, Some, None, Option, sym, refl, ap, ◌∙◌, subst, ⊎_elim, arith, ltb-true, leb-false, leb-true}
+use Rattle.std.proofs.Common.{◌≡◌, ℕ, ◌+◌, ◌<◌, ◌≤◌, Bool, true, false, not, ◌&&◌, ltb, leb, List, [], ◌∷◌, length, is_some, Some, None, Option, sym, refl, ap, ◌∙◌, subst, ⊎_elim, arith, ltb-true, leb-false, leb-true}
 use Rattle.std.proofs.lemmas.Bool.{cases_lt}
 use Rattle.shapes.specs.Form.{Real}
 use Rattle.places.specs.declared.parts.Span.{Span}
 use Rattle.places.specs.declared.parts.Line.{Line}
-use Rattle.places.specs.Panels.{Placed, Among, here, there, bottom, area_on}
+use Rattle.places.specs.Panels.{Placed, Among, area_on}
 use Rattle.places.specs.Bands.{room, band}
-use Rattle.places.specs.Permitted.{Wanted, put, Keeps, Permitted, Best}
-use Rattle.places.specs.Lines.{Wide, Least}
-use Rattle.places.specs.Theorems.{Within, Settled}
+use Rattle.places.specs.Permitted.{Wanted, put, Keeps, Best}
+use Rattle.places.specs.Lines.{Wide}
+use Rattle.places.specs.Theorems.{Settled}
 use Rattle.places.proofs.Bands.{itself, within_room, band_in, band_off, band_from}
 use Rattle.places.proofs.Panels.{among_more, area_below}
 use Rattle.rules.specs.declared.refusals.Refusal.{Refusal}
@@ -16,7 +16,7 @@ use Rattle.rules.specs.declared.refusals.Refusal.TheVariants.{NoParagraph, Alrea
 use Rattle.rules.specs.Refusals.{first}
 use Rattle.rules.specs.declared.paragraphs.Paragraph.{Paragraph}
 use Rattle.rules.specs.Account.{Size, rows_of, Account, fresh, scene, closed, reserved, full, between, most_paragraphs, early_open, early_panel, with_open, with_panel, with_end, shut_boxes}
-use Rattle.rules.specs.Words.{Joins, longer, with_word, with_line, WordStep, word_joins, word_opens, Words, all_set, stopped, one_set}
+use Rattle.rules.specs.Words.{longer, with_word, with_line, WordStep, word_joins, word_opens, Words, all_set, stopped, one_set}
 use Rattle.rules.specs.Runs.{Call, Answer, Event, Step, Run, start, next, open_refused, open_done, panel_refused, panel_none, panel_done, flow_refused, flow_done, end_refused, end_done}
 use Rattle.rules.specs.Orderly.{OnSheet, InMargins, InBand, Orderly}
 use Rattle.rules.specs.Theorems.{RunsAreOrderly}

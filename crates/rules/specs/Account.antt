@@ -5,7 +5,7 @@
 --     early-..        the refusals of a call that are judged before its work, in their order
 --     with-..         the account after a call that is done
 --     open_line z A   the box that the open line would have if it closed now, if there is one
-use Rattle.std.specs.Prelude.{ℕ, ◌+◌, max, Bool, true, false, not, ◌&&◌, List, [], ◌∷◌, length, is_some, Some, None, Option, ◌==◌, nat_le, nat_lt}
+use Rattle.std.specs.Prelude.{ℕ, ◌+◌, max, Bool, false, not, ◌&&◌, List, [], ◌∷◌, length, is_some, Some, None, Option, ◌==◌, nat_le, nat_lt}
 use Rattle.shapes.specs.declared.sides.Clear.{Clear}
 use Rattle.places.specs.declared.parts.Span.{Span}
 use Rattle.places.specs.declared.parts.Line.{Line}

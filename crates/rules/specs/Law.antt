@@ -4,7 +4,7 @@
 --     Homeless z sp B a      on the account B the word fits neither the open line nor a row open to it
 --     Fate z B l C m         what the moment m made of the open line l, with the account B before it and C after it
 --     Right z past A         the law of the run past, whose account is A
-use Rattle.std.specs.Prelude.{◌≡◌, ℕ, ◌+◌, ◌<◌, List, [], ◌∷◌, ◌++◌, length, take, drop, Some, None, Option, slice_index}
+use Rattle.std.specs.Prelude.{◌≡◌, ℕ, ◌+◌, ◌<◌, List, ◌∷◌, ◌++◌, length, take, drop, Some, slice_index}
 use Rattle.places.specs.declared.parts.Line.{Line}
 use Rattle.places.specs.Permitted.{Wanted, Permitted, Best}
 use Rattle.places.specs.Lines.{Wide}

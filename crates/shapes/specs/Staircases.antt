@@ -1,7 +1,6 @@
 -- The extent of each row of some steps. Assumes nothing.
-use Rattle.std.specs.Prelude.{◌≡◌, ℕ, zero, suc, ◌+◌, ◌-◌, ◌<◌, ◌≤◌, Bool, true, cond, ◌&&◌, List, [], ◌∷◌, length, get_or, take, drop, nat_le, nat_lt, slice_index_or, refl}
-use Rattle.std.proofs.Common.{sym, ap, ◌∙◌, ⊎_elim, arith}
-use Rattle.std.proofs.lemmas.List.{at_drop_more}
+use Rattle.std.specs.Prelude.{◌≡◌, ℕ, zero, suc, ◌+◌, ◌-◌, ◌<◌, ◌≤◌, true, cond, List, [], ◌∷◌, get_or, take, nat_le, nat_lt, refl}
+use Rattle.std.proofs.Common.{ap, ◌∙◌, ⊎_elim, arith}
 use Rattle.std.proofs.lemmas.List.Sums.{sum_by-cons}
 use Rattle.std.proofs.lemmas.Bool.{cases_lt, le-ltb, lt-ltb, leb-true, and_parts, cond_both}
 use Rattle.shapes.specs.Staircase.{rows_of, extent_at, step_fits, steps_fit}
@@ -23,21 +22,6 @@ row_past [] k h = refl
 row_past (s ∷ ss) k h =
     let e = rows_cons s ss in
     row_below s ss k (omega arith) ∙ row_past ss (k - s.rows) (omega arith)
-
--- the same at step i, for a loop that has passed the steps before it
-pub row_here : (ss : List Step) (i rest : ℕ) → i < length ss → rest < (get_or ss i no_step).rows → extent_at (drop i ss) rest ≡ (get_or ss i no_step).extent
-row_here ss i rest h lt =
-    at_drop_more (λ (xs : List Step). extent_at xs rest) ss i no_step h
-    ∙ row_above (slice_index_or ss i no_step) (drop (i + 1) ss) rest lt
-
-pub row_next : (ss : List Step) (i rest : ℕ) → i < length ss → (get_or ss i no_step).rows ≤ rest → extent_at (drop i ss) rest ≡ extent_at (drop (i + 1) ss) (rest - (get_or ss i no_step).rows)
-row_next ss i rest h le =
-    at_drop_more (λ (xs : List Step). extent_at xs rest) ss i no_step h
-    ∙ row_below (slice_index_or ss i no_step) (drop (i + 1) ss) rest le
-
-pub fit_next : (w : ℕ) (ss : List Step) (i : ℕ) (b : Bool) → i < length ss → b ≡ step_fits w (slice_index_or ss i no_step) → steps_fit w (drop i ss) ≡ (b && steps_fit w (drop (i + 1) ss))
-fit_next w ss i b h is =
-    at_drop_more (steps_fit w) ss i no_step h ∙ ap (λ t. t && steps_fit w (drop (i + 1) ss)) (sym is)
 
 -- step i + 1 of all the steps is step i of those below the first
 lower : (s : Step) (ss : List Step) (i k : ℕ) → InStep (s ∷ ss) (suc i) k → InStep ss i (k - s.rows)

@@ -3,13 +3,13 @@
 --     RowHasItsStep ss k      the extent of row k, by the step that it lies in
 --     RowsHaveTheirSteps   so it is with every row of any steps
 --     MadeAreReal             what is made is a shape, and no box that is one is refused
-use Rattle.std.specs.Prelude.{◌≡◌, ℕ, ◌+◌, ◌<◌, ◌≤◌, List, length, get_or, take, Some, None, slice_index_or}
+use Rattle.std.specs.Prelude.{◌≡◌, ℕ, ◌+◌, ◌<◌, ◌≤◌, List, length, take, Some, None, slice_index_or}
 use Rattle.shapes.specs.declared.stairs.Step.{Step}
 use Rattle.shapes.specs.Form.{Form, Real}
 use Rattle.shapes.specs.Box.{box_form, make_box}
 use Rattle.shapes.specs.Staircase.{rows_of, extent_at, make_stairs}
 
--- what get_or answers past the last step
+-- what slice_index_or answers past the last step
 abbrev pub no_step : Step
 no_step = record { rows = 0; extent = 0 }
 

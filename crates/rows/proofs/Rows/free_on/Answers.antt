@@ -12,9 +12,9 @@ returns c =
     let width = c.args.self.now.width in
     let margins = c.args.margins in
     record {
-      inside = omega (arith, ap (λ s. s.to) c.left-over.ensures);
+      inside = omega (arith, ap (λ s. s.to) c.left_over.ensures);
       told = λ qs told.
-          c.left-over.ensures
-          ∙ ap (left_over Boxes width margins) (c.reach-of.ensures qs told ∙ reach_laws.right_neutral (row_reach width qs c.args.y))
+          c.left_over.ensures
+          ∙ ap (left_over Boxes width margins) (c.reach_of.ensures qs told ∙ reach_laws.right_neutral (row_reach width qs c.args.y))
           ∙ sym (boxes_leave_the_free width margins qs c.args.y c.requires.margins told.inside);
     }

@@ -6,13 +6,13 @@ use Rattle.rows.proofs.Rows.new.Goals as goal
 
 pub returns : goal.returns
 returns c =
-    let fresh = c.in-ok-tree.ensures in
+    let fresh = c.in_ok-tree.ensures in
     record {
       width = refl;
       height = refl;
       room = fresh.room;
       size = fresh.size;
       fit = λ wide high. record { sound = fresh.sound; count = fresh.count; wide = wide; high = high };
-      told = none_told c.args.width c.args.height (elements c.in-ok-tree.tree) fresh.empty;
+      told = none_told c.args.width c.args.height (elements c.in_ok-tree.tree) fresh.empty;
       rest = fresh.rest;
     }

@@ -7,8 +7,8 @@ use Rattle.rows.proofs.Folds.{long_enough}
 use Rattle.rows.proofs.Grown.{Grown, row_taken, grown_more, grown_all, stays_on}
 use Rattle.rows.proofs.Rows.take_in.Goals as goal
 
-pub reach-on-taken-requires : goal.reach-on-taken-requires
-reach-on-taken-requires g c =
+pub reach_on-taken-requires : goal.reach_on-taken-requires
+reach_on-taken-requires g c =
     let within = (g.met.S.Shape.real c.args.shape.now).within c.loop-k.k in
     let wide = c.width-width.ensures in
     record { whole = omega (arith, c.requires.wide, c.loop-k.invariant.1.width); part = omega (arith, c.extent-extent.ensures) }
@@ -26,11 +26,11 @@ loop-k-preserved g c =
     let small : k < f.tall = omega (arith, c.height-k-end.ensures) in
     let inside : c.args.place.y + k < length (elements now.tree) = omega (arith, long_enough now fit, stays.height, c.requires.high) in
     let reach =
-    row_taken before.width now.width c.width-width.result c.extent-extent.result q k c.reach-on-taken.result
-    small stays.width c.width-width.ensures c.extent-extent.ensures c.reach-on-taken.ensures in (
+    row_taken before.width now.width c.width-width.result c.extent-extent.result q k c.reach_on-taken.result
+    small stays.width c.width-width.ensures c.extent-extent.ensures c.reach_on-taken.ensures in (
       c.widen.ensures.fit,
       stays_on before now next stays c.widen.ensures.stays,
-      grown_more before.width q k (elements before.tree) (elements now.tree) (elements next.tree) c.reach-on-taken.result inside c.loop-k.invariant.2 reach c.widen.ensures.after,
+      grown_more before.width q k (elements before.tree) (elements now.tree) (elements next.tree) c.reach_on-taken.result inside c.loop-k.invariant.2 reach c.widen.ensures.after,
     )
 
 pub returns : goal.returns

@@ -7,6 +7,6 @@ pub beside-left-requires : goal.beside-left-requires
 beside-left-requires g c =
     let f = g.S.Shape.model c.args.shape.now in
     let wide = c.width-width.ensures in
-    let most = c.widest-of-extent.ensures in
+    let most = c.widest_of-extent.ensures in
     let less = widest_within f.extent f.wide (c.in-Some.words.top + c.args.line - c.args.y) (g.met.S.Shape.real c.args.shape.now).within in
     record { whole = omega (arith, c.requires.small); part = omega arith }

@@ -1,4 +1,4 @@
-use Rattle.std.proofs.Common.{refl, arith}
+use Rattle.std.proofs.Common.{refl}
 use Rattle.std.proofs.lemmas.List.{at_drop_all}
 use Rattle.lexer.specs.Lines.{file_lines}
 use Rattle.lexer.proofs.Cuts.{line_at}
