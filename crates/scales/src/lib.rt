@@ -1,4 +1,6 @@
 // A metrics of one of the two families, itself a metrics.
+#![tactic(auto)]
+
 ghost use Rattle.std.specs.Prelude.{◌≡◌};
 ghost use Rattle.scales.specs.Scales.{family_advances, scale_advances, made};
 ghost use Rattle.scales.specs.Ranges.{scale_ranges};
