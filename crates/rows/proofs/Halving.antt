@@ -34,19 +34,19 @@ keeps_leaves z S p around (Some n) above is h = λ lt.
 
 -- one row y, on which b is free, for a panel w wide; the open line's band is `around`
 module _ (rows : Rows) (m : Span) (L : ℕ) (current : Option Line) (around : Span) (side : Side) (f : Form) (y w : ℕ) (b : Span)
-    (is-w : w ≡ f.wide)
-    (is-around : (qs : List Placed) → Tells rows qs → around ≡ line_band m qs L current)
+    (is_w : w ≡ f.wide)
+    (is_around : (qs : List Placed) → Tells rows qs → around ≡ line_band m qs L current)
     (is_free : (qs : List Placed) → Tells rows qs → b ≡ free m qs y)
     (S : Scene) (c : Clear) (shows : Shows rows m current S) (low : first_row S (wanted side c f) ≤ y) where
   free_is : free S.margins S.placed y ≡ b
   free_is = ap (λ s. free s S.placed y) shows.margins ∙ sym (is_free S.placed shows.placed)
 
   near_is : near S (wanted side c f) y ≡ against side b w
-  near_is = ap₂ (against side) free_is (sym is-w)
+  near_is = ap₂ (against side) free_is (sym is_w)
 
   around_is : around ≡ line_band S.margins S.placed L S.current
   around_is =
-      is-around S.placed shows.placed
+      is_around S.placed shows.placed
       ∙ ap (λ s. line_band s S.placed L current) (sym shows.margins)
       ∙ ap (line_band S.margins S.placed L) (sym shows.current)
 
