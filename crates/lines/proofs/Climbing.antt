@@ -31,15 +31,9 @@ module _ (line : List ℕ) (p k i : ℕ) (ss : List Step) (h : i < k) where
   step_with r o d e = ap (λ (x : Result ℕ Fault). after x (λ e. steps_from (k - (i + 1)) line (next line (next line p)) (ss ++ (step r e ∷ [])))) e ∙ rows_with (Ok r) d
 
 module _ (k i : ℕ) (s t : Fields) (ss : List Step) (sofar : Sofar k i s t ss) (h : i < k) where
-  pub rows_bad : (f : Fault) → Err f ≡ reading a_number t.line.now t.place → Err f ≡ steps_from k s.line.now s.place []
-  rows_bad f e = rows_with t.line.now t.place k i (front i ss) h (Err f) e ∙ sofar.left
-
   module _ (u : Fields) (one : Stepped t u) (r : ℕ) (d : Ok r ≡ reading a_number t.line.now t.place) where
     second : (o : Result ℕ Fault) → o ≡ reading a_number u.line.now u.place → o ≡ reading a_number t.line.now (next t.line.now t.place)
     second o e = e ∙ (λ j. reading a_number (one.line j).now (one.place j))
-
-    pub extent_bad : (f : Fault) → Err f ≡ reading a_number u.line.now u.place → Err f ≡ steps_from k s.line.now s.place []
-    extent_bad f e = step_with t.line.now t.place k i (front i ss) h r (Err f) d (second (Err f) e) ∙ sofar.left
 
     pub step_good : (v : Fields) → Stepped u v → (x : ℕ) → Ok x ≡ reading a_number u.line.now u.place → i < most_steps → Sofar k (i + 1) s v (set ss i (step r x))
     step_good v two x e few =

@@ -1,5 +1,6 @@
 // The form of each line of a sheet file: bytes to a typed line, or the fault with its place. Nothing here makes a call
 // or keeps a count: the largest number that a count may have is the caller's.
+#![tactic(auto)]
 
 // Numbers below a bound.
 pub mod bounds;

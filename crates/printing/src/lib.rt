@@ -1,4 +1,5 @@
 // What is printed of a sheet, into lent memory: the lines of its boxes and their total, or the line of a fault.
+#![tactic(auto)]
 
 // The lines of the boxes of a sheet.
 mod boxes;

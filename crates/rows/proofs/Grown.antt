@@ -54,10 +54,10 @@ on_row W q k h =
 
 pub row_taken : (W V w e : ℕ) (q : Placed) (k : ℕ) (r : Reach) → k < q.form.tall → V ≡ W → w ≡ q.form.wide → e ≡ q.form.extent k
     → r ≡ reach_at V q.side q.x w w e → r ≡ reach_of W q (q.y + k)
-row_taken W V w e q k r small is-W is-w is-e is =
+row_taken W V w e q k r small is_W is_w is_e is =
     is
-    ∙ ap (λ v. reach_at v q.side q.x w w e) is-W
-    ∙ ap₂ (λ w e. reach_at W q.side q.x w w e) is-w is-e
+    ∙ ap (λ v. reach_at v q.side q.x w w e) is_W
+    ∙ ap₂ (λ w e. reach_at W q.side q.x w w e) is_w is_e
     ∙ sym (on_row W q k small)
 
 pub grown_none : (W : ℕ) (q : Placed) (old : List Reach) → Grown W q 0 old old
@@ -72,7 +72,7 @@ pub grown_more : (W : ℕ) (q : Placed) (k : ℕ) (old new new' : List Reach) (r
 grown_more W q k old new new' r lt t is e =
     let at = q.y + k in
     let v = farther r (get_or new at no_reach) in
-    let is-v : v ≡ farther (reach_of W q at) (get_or old at no_reach) = ap₂ farther is (t.rest at (omega arith)) in
+    let is_v : v ≡ farther (reach_of W q at) (get_or old at no_reach) = ap₂ farther is (t.rest at (omega arith)) in
     let read : (i : ℕ) → get_or new' i no_reach ≡ get_or (set new at v) i no_reach = λ i. ap (λ c. get_or c i no_reach) e in
     record {
       long = ap length e ∙ length-set new at v ∙ t.long;
@@ -82,7 +82,7 @@ grown_more W q k old new new' r lt t is e =
           read i
           ∙ ap (λ j. get_or (set new at v) j no_reach) here
           ∙ get_or-set_same new at v no_reach lt
-          ∙ is-v
+          ∙ is_v
           ∙ sym (ap (λ j. farther (reach_of W q j) (get_or old j no_reach)) here))
           (λ (ne : i ≢ at). read i ∙ get_or-set_other new at i v no_reach ne ∙ t.done i (omega (arith, ne)))
           (cases_eq i at);

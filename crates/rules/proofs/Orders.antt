@@ -30,9 +30,9 @@ none_three false true r d e f h = absurd (some_none refl h)
 none_three false false true d e f h = absurd (some_none refl h)
 none_three false false false d e f h = (refl, refl, refl)
 
-not-false : (b : Bool) → not b ≡ false → b ≡ true
-not-false true h = refl
-not-false false h = sym h
+not_false : (b : Bool) → not b ≡ false → b ≡ true
+not_false true h = refl
+not_false false h = sym h
 
 and_both : (a b : Bool) → (a && b) ≡ true → (a ≡ true) × (b ≡ true)
 and_both true b h = (refl, h)
@@ -54,7 +54,7 @@ below_band m qs p t n low =
 open_para : (z : Size) (A : Account) (m : Span) → early_open z A m ≡ None → (A.para ≡ None) × (A.count < most_paragraphs) × (m.from < m.to) × (m.to ≤ z.width)
 open_para z A m h =
     let t = none_three (is_some A.para) (leb most_paragraphs A.count) (not (ltb m.from m.to && leb m.to z.width)) AlreadyOpen ManyParagraphs BadMargins h in
-    let b = and_both (ltb m.from m.to) (leb m.to z.width) (not-false _ t.2) in
+    let b = and_both (ltb m.from m.to) (leb m.to z.width) (not_false _ t.2) in
     (none_open A.para t.0, leb-false _ _ t.1, ltb-true _ _ b.0, leb-true _ _ b.1)
   where
     none_open : (o : Option Paragraph) → is_some o ≡ false → o ≡ None

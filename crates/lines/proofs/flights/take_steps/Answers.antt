@@ -1,26 +1,11 @@
-use Rattle.std.proofs.Common.{arith, rules}
-use Rattle.lines.proofs.Climbing.{rows_bad, extent_bad, step_good}
+use Rattle.std.proofs.Common.{arith}
+use Rattle.lines.proofs.Climbing.{step_good}
 use Rattle.lines.proofs.flights.take_steps.Goals as goal
-
-pub returns-in-err-rows : goal.returns-in-err-rows
-returns-in-err-rows c =
-    let l = c.loop-i in
-    let value = rows_bad c.args.count l.i c.args.fields.now l.fields l.steps l.invariant (omega arith) c.in-err-rows.field-0.0 c.in-err-rows.ensures.value in
-    search rules
-
-pub returns-in-err-extent : goal.returns-in-err-extent
-returns-in-err-extent c =
-    let l = c.loop-i in
-    let value =
-    extent_bad c.args.count l.i c.args.fields.now l.fields l.steps l.invariant (omega arith)
-    c.take.new.self c.take.ensures.stepped c.in-ok-rows.rows c.in-ok-rows.ensures.value
-    c.in-err-extent.field-0.0 c.in-err-extent.ensures.value in
-    search rules
 
 pub loop-i-preserved : goal.loop-i-preserved
 loop-i-preserved c =
     let l = c.loop-i in
     step_good c.args.count l.i c.args.fields.now l.fields l.steps l.invariant (omega arith)
-    c.take.new.self c.take.ensures.stepped c.in-ok-rows.rows c.in-ok-rows.ensures.value
-    c.take-in-loop-i.new.self c.take-in-loop-i.ensures.stepped c.in-ok-extent.extent c.in-ok-extent.ensures.value
+    c.take.new.self c.take.ensures.stepped c.in_ok-rows.rows c.in_ok-rows.ensures.value
+    c.take-in-loop-i.new.self c.take-in-loop-i.ensures.stepped c.in_ok-extent.extent c.in_ok-extent.ensures.value
     (omega arith)

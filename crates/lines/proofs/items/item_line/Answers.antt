@@ -4,9 +4,9 @@ use Rattle.lexer.specs.LinesLeft.{line_of}
 use Rattle.lines.proofs.Texts.{text_there, text_missing}
 use Rattle.lines.proofs.items.item_line.Goals as goal
 
-pub returns-in-default : goal.returns-in-default
-returns-in-default c =
-    let same = text_missing c.args.shapes (line_of c.args.line) c.in-default.ensures in cc
+pub returns-in_default : goal.returns-in_default
+returns-in_default c =
+    let same = text_missing c.args.shapes (line_of c.args.line) c.in_default.ensures in cc
 
 pub returns-then-not-line : goal.returns-then-not-line
 returns-then-not-line c =

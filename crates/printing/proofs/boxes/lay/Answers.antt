@@ -9,8 +9,8 @@ use Rattle.printing.proofs.boxes.lay.Goals as goal
 pub loop-item-preserved : goal.loop-item-preserved
 loop-item-preserved c =
     let u = memory c.loop-item.at c.loop-item.out in
-    let v = memory c.box-line-at.result c.box-line-at.new.out in
-    part_more box_line c.args.boxes.now c.loop-item.item-index _ u v c.loop-item-test.true c.box-line-at.ensures ∙ c.loop-item.invariant
+    let v = memory c.box_line-at.result c.box_line-at.new.out in
+    part_more box_line c.args.boxes.now c.loop-item.item-index _ u v c.loop-item-test.true c.box_line-at.ensures ∙ c.loop-item.invariant
 
 pub returns : goal.returns
 returns c =
