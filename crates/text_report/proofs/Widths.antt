@@ -10,7 +10,6 @@ use Rattle.text.specs.Fault.{longest_text}
 use Rattle.text.specs.Measure.{bytes_of, word_of, measured, run_of}
 use Rattle.text.specs.Run.{largest, held_sum, no_run, longer}
 use Rattle.text.specs.declared.records.Word.{Word}
-use Rattle.text.specs.declared.runs.Run.{Run}
 use Rattle.words.specs.Words.{ink, end, words_of}
 use Rattle.words.specs.declared.spans.Span.{Span}
 use Rattle.words.proofs.Walks.{Step, Walk, all_walked, half_as_many_words}
