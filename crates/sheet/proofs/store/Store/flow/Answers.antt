@@ -1,4 +1,4 @@
-use Rattle.std.proofs.Common.{◌≡◌, ℕ, ◌+◌, ◌≤◌, Ok, Err, sym, refl, ap, ◌∙◌, subst, arith}
+use Rattle.std.proofs.Common.{◌≡◌, ℕ, ◌+◌, Ok, Err, sym, refl, ◌∙◌, subst, arith}
 use Rattle.sheet.specs.Told.{WordTold}
 use Rattle.sheet.specs.Stores.{view, advances_in}
 use Rattle.sheet.proofs.Moves.{rest_none, rest_then}

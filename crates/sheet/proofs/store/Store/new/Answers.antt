@@ -1,4 +1,4 @@
-use Rattle.std.proofs.Common.{is_some, sym, refl, ap, ◌∙◌}
+use Rattle.std.proofs.Common.{sym}
 use Rattle.sheet.proofs.Fresh.{made_refused, made_new}
 use Rattle.sheet.proofs.store.Store.new.Goals as goal
 

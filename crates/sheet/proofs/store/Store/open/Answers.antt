@@ -1,4 +1,4 @@
-use Rattle.std.proofs.Common.{sym, refl, ◌∙◌, arith}
+use Rattle.std.proofs.Common.{sym, refl, arith}
 use Rattle.sheet.specs.Stores.{view}
 use Rattle.sheet.proofs.Moves.{rest_none}
 use Rattle.sheet.proofs.Opens.{open_taken, open_many, open_narrow, opens_at}

@@ -1,9 +1,8 @@
-use Rattle.std.proofs.Common.{◌≡◌, ◌+◌, max, sym, refl, ap, ◌∙◌, ap₂, arith, drop-set-lt}
+use Rattle.std.proofs.Common.{◌+◌, max, sym, refl, ap, ◌∙◌, ap₂, arith, drop-set-lt}
 use native.Mathlib.Numerals.{lt-add-one}
 use Rattle.rules.specs.declared.boxes.BoxRecord.TheVariants as B
-use Rattle.rules.specs.Account.{panel_box}
 use Rattle.rows.specs.Asked.{wanted}
-use Rattle.sheet.specs.Clearance.{lowest, with_bottom}
+use Rattle.sheet.specs.Clearance.{with_bottom}
 use Rattle.sheet.specs.Stores.{view}
 use Rattle.sheet.proofs.Panels.{panel_closed, panel_wide, panel_full, panel_nowhere, panel_stands, Ready}
 use Rattle.sheet.proofs.Fits.{fit_panel}

@@ -1,6 +1,6 @@
-use Rattle.std.proofs.Common.{◌≡◌, ◌+◌, ◌-◌, ◌<◌, ◌≤◌, sym, refl, ap, ◌∙◌, subst, arith}
+use Rattle.std.proofs.Common.{◌≡◌, ◌+◌, ◌-◌, ◌<◌, refl, subst, arith}
 use Rattle.places.specs.Bands.{room}
-use Rattle.text.specs.Run.{largest, width_of}
+use Rattle.text.specs.Run.{largest}
 use Rattle.sheet.specs.Stores.{view}
 use Rattle.sheet.proofs.Fits.{fit_current}
 use Rattle.sheet.proofs.Stretches.{Taken, taken_run, stretches, stretched_fits}

@@ -1,4 +1,4 @@
-use Rattle.std.proofs.Common.{sym, refl, ap, ◌∙◌, arith, rules}
+use Rattle.std.proofs.Common.{sym, refl, arith}
 use Rattle.sheet.specs.Stores.{view}
 use Rattle.sheet.proofs.Lines.{word_too_wide, joins, word_full_up, word_nowhere, begins, left, rest_shut}
 use Rattle.sheet.proofs.Fits.{fit_current, fit_begun}
