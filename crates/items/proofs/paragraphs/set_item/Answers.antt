@@ -8,23 +8,23 @@ use Rattle.items.proofs.Sparing.{spares_none}
 use Rattle.items.proofs.Asking.{asked_item, asked_nothing}
 use Rattle.items.proofs.paragraphs.set_item.Goals as goal
 
-pub returns-in-err-item : goal.returns-in-err-item
-returns-in-err-item g c =
+pub returns-in_err-item : goal.returns-in_err-item
+returns-in_err-item g c =
     let fs = kept c.args.shelf.now in
     let l = line_of c.args.line in
-    let p = err_from_is_err_and c.from-residual.result c.from-residual.ensures.1 in
-    let said = ap (λ (n : ℕ). item_form n l) (sym c.count.ensures) ∙ sym c.in-err-item.ensures in
+    let p = err_from_is_err_and c.from_residual.result c.from_residual.ensures.1 in
+    let said = ap (λ (n : ℕ). item_form n l) (sym c.count.ensures) ∙ sym c.in_err-item.ensures in
     record {
       number = refl;
       spares = spares_none c.args.sheet.now;
-      asked = asked_nothing (g.M.Metrics.advances c.args.metrics.now) fs (length c.args.words.now) (length c.args.runs.now) l _ c.args.sheet.now c.args.sheet.now c.in-err-item.field-0.0 said (p.1 ∙ ap Err p.2) refl;
+      asked = asked_nothing (g.M.Metrics.advances c.args.metrics.now) fs (length c.args.words.now) (length c.args.runs.now) l _ c.args.sheet.now c.args.sheet.now c.in_err-item.field-0.0 said (p.1 ∙ ap Err p.2) refl;
     }
 
 pub returns-in-Text : goal.returns-in-Text
 returns-in-Text g c =
     let fs = kept c.args.shelf.now in
     let l = line_of c.args.line in
-    let said = ap (λ (n : ℕ). item_form n l) (sym c.count.ensures) ∙ sym c.in-ok-item.ensures ∙ ap (λ (i : Item). Ok (item_of i)) c.in-Text.is in
+    let said = ap (λ (n : ℕ). item_form n l) (sym c.count.ensures) ∙ sym c.in_ok-item.ensures ∙ ap (λ (i : Item). Ok (item_of i)) c.in-Text.is in
     record {
       number = c.flow.ensures.number;
       spares = c.flow.ensures.spares;
@@ -35,7 +35,7 @@ pub returns-in-Plain : goal.returns-in-Plain
 returns-in-Plain g c =
     let fs = kept c.args.shelf.now in
     let l = line_of c.args.line in
-    let said = ap (λ (n : ℕ). item_form n l) (sym c.count.ensures) ∙ sym c.in-ok-item.ensures ∙ ap (λ (i : Item). Ok (item_of i)) c.in-Plain.is in
+    let said = ap (λ (n : ℕ). item_form n l) (sym c.count.ensures) ∙ sym c.in_ok-item.ensures ∙ ap (λ (i : Item). Ok (item_of i)) c.in-Plain.is in
     record {
       number = c.plain.ensures.number;
       spares = c.plain.ensures.spares;
@@ -46,7 +46,7 @@ pub returns-in-Shaped : goal.returns-in-Shaped
 returns-in-Shaped g c =
     let fs = kept c.args.shelf.now in
     let l = line_of c.args.line in
-    let said = ap (λ (n : ℕ). item_form n l) (sym c.count.ensures) ∙ sym c.in-ok-item.ensures ∙ ap (λ (i : Item). Ok (item_of i)) c.in-Shaped.is in
+    let said = ap (λ (n : ℕ). item_form n l) (sym c.count.ensures) ∙ sym c.in_ok-item.ensures ∙ ap (λ (i : Item). Ok (item_of i)) c.in-Shaped.is in
     record {
       number = c.shaped.ensures.number;
       spares = c.shaped.ensures.spares;
