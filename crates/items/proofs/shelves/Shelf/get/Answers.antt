@@ -1,4 +1,4 @@
-use Rattle.std.proofs.Common.{◌≡◌, ℕ, ap, ◌∙◌, arith}
+use Rattle.std.proofs.Common.{◌≡◌, ap, ◌∙◌, arith}
 use Rattle.std.specs.List.{slice_get}
 use Rattle.items.specs.Shelves.{kept}
 use Rattle.items.proofs.Keeping.{form_at, form_past}
