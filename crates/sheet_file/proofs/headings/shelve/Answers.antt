@@ -1,6 +1,5 @@
-use Rattle.std.proofs.Common.{◌≡◌, ℕ, ◌-◌, List, [], length, Ok, Err, Result, sym, refl, ap, ◌∙◌, subst, arith}
+use Rattle.std.proofs.Common.{◌≡◌, ℕ, ◌-◌, [], length, Err, Result, sym, ap, ◌∙◌, subst, arith}
 use Rattle.std.proofs.lemmas.Result.{err_from_is_err_and}
-use Rattle.shapes.specs.Form.{Form}
 use Rattle.shapes.specs.Models.{stairs_model}
 use Rattle.items.specs.declared.faults.Located.{Located}
 use Rattle.items.specs.declared.shelves.Shelf.{Shelf}

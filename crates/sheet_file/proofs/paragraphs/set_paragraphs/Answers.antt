@@ -1,4 +1,4 @@
-use Rattle.std.proofs.Common.{◌≡◌, ℕ, length, Ok, Err, Result, sym, ap, ◌∙◌, subst, subst₂, arith}
+use Rattle.std.proofs.Common.{◌≡◌, ℕ, length, Ok, Err, Result, sym, ap, ◌∙◌, subst, subst₂}
 use Rattle.std.proofs.lemmas.Result.{err_from_is_err_and}
 use Rattle.items.specs.declared.faults.Located.{Located}
 use Rattle.items.proofs.Sparing.{spares_none, spares_then}

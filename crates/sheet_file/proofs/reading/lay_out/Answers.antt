@@ -1,10 +1,10 @@
-use Rattle.std.proofs.Common.{◌≡◌, List, length, Some, Ok, Err, Result, sym, ap, ◌∙◌, subst}
+use Rattle.std.proofs.Common.{◌≡◌, length, Some, Err, Result, sym, ap, ◌∙◌, subst}
 use Rattle.std.proofs.lemmas.Result.{err_from_is_err_and}
 use Rattle.items.specs.declared.faults.Located.{Located}
 use Rattle.items.proofs.Sparing.{spares_none}
 use Rattle.sheet_file.specs.Cursors.{ahead}
 use Rattle.sheet_file.specs.Done.{fault_in, ParasDone, all_ended, Goes}
-use Rattle.sheet_file.specs.Plans.{Body, Paras, no_paras, body_of, body_plan}
+use Rattle.sheet_file.specs.Plans.{Paras, no_paras, body_of, body_plan}
 use Rattle.sheet_file.proofs.reading.lay_out.Goals as goal
 
 pub returns-in_err-body : goal.returns-in_err-body

@@ -1,4 +1,4 @@
-use Rattle.std.proofs.Common.{◌≡◌, ℕ, List, [], length, drop, Option, sym, refl, ap, ◌∙◌, subst}
+use Rattle.std.proofs.Common.{◌≡◌, ℕ, [], length, drop, Option, sym, ap, ◌∙◌, subst}
 use Rattle.sheet.specs.Fresh.{new_size}
 use Rattle.sheet.specs.Sheets.{Past}
 use Rattle.items.specs.declared.faults.Located.{Located}
