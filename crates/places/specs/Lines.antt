@@ -1,5 +1,5 @@
 -- Which rows a line may stand on (CSS 2.1, 9.4.2 and 9.5). Assumes nothing.
---     Wide z S t n       the band of a line at t is at least n units wide
+--     Wide z S t n          the band of a line at t is at least n units wide
 --     Lies z S start a t    a word of advance a fits a new line at t, a row open to it: from start on, with the line's end on the sheet
 --     Least z S start a t   t is the highest such row
 use Rattle.std.specs.Prelude.{ℕ, ◌+◌, ◌<◌, ◌≤◌}

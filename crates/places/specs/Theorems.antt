@@ -1,10 +1,10 @@
 -- What holds of places. Assumes nothing.
 --     Settled S              what every scene of a sheet has: panels have a width, and the open line is among the lines
 --     Within c b             the span c lies in the span b
---     OffAreas c qs t n     the span c is off each area of qs on the n rows from t on
---     LowEnough S y         rules 4, 5 and 6 of row y
---     AllowedRow S o y      these and clear
---     BesideOthers S o x y  rules 1, 2, 3 and 7 of the place (x, y)
+--     OffAreas c qs t n      the span c is off each area of qs on the n rows from t on
+--     LowEnough S y          rules 4, 5 and 6 of row y
+--     AllowedRow S o y       these and clear
+--     BesideOthers S o x y   rules 1, 2, 3 and 7 of the place (x, y)
 --     Found z S o r          r is the best place, or none where none is permitted
 --     Sought z S start a r   r is the least row of a line, or none where there is none
 use Rattle.std.specs.Prelude.{◌≡◌, ℕ, ◌+◌, ◌-◌, ◌<◌, ◌≤◌, true, ◌⊎◌, List, ◌∷◌, Some, None, Option}

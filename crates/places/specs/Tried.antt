@@ -1,10 +1,10 @@
 -- The best place and the least row, worked out by trying the rows one by one. Assumes nothing.
---     bottoms c qs       the greatest bottom of the panels that c clears, 0 where there is none
---     tops S             the greatest of the paragraph's top and the tops of panels and lines
---     first_row S o      the first row allowed by rules 4 to 6 and clear
---     near S o y         the place of row y nearest the panel's side
---     Good z S o y       the nearest place of row y will do; row_good is the test
---     best_place z S o   the best place, or none
+--     bottoms c qs            the greatest bottom of the panels that c clears, 0 where there is none
+--     tops S                  the greatest of the paragraph's top and the tops of panels and lines
+--     first_row S o           the first row allowed by rules 4 to 6 and clear
+--     near S o y              the place of row y nearest the panel's side
+--     Good z S o y            the nearest place of row y will do; row_good is the test
+--     best_place z S o        the best place, or none
 --     least_row z S start a   the least row for a word's line, or none
 use Rattle.std.specs.Prelude.{ℕ, zero, suc, ◌+◌, ◌-◌, ◌≤◌, max, Bool, true, cond, ◌&&◌, ◌||◌, List, [], ◌∷◌, Some, None, Option, nat_le}
 use Rattle.shapes.specs.declared.sides.Side.{Side}

@@ -2,7 +2,7 @@
 --     no_reach             nobody reaches in
 --     farther r s          of each of the four numbers the greater
 --     between W m l r      what is left between the margins m where the left l and the right r units of W are taken
---     left-over of W m r   what the boxes, or the areas, with the reach r leave between the margins m, on a sheet W wide
+--     left_over of W m r   what the boxes, or the areas, with the reach r leave between the margins m, on a sheet W wide
 --     leaves_need r l      that is at least the need l wide
 use Rattle.std.specs.Prelude.{ℕ, ◌-◌, min, max, Bool, nat_le}
 use Rattle.places.specs.declared.parts.Span.{Span}

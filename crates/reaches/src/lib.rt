@@ -1,4 +1,5 @@
 // How far in panels reach on the rows of a sheet, and what they leave of the rows between margins.
+#![tactic(auto)]
 
 // What a panel reaches on one of its rows.
 pub mod panels;

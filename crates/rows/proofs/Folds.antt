@@ -1,6 +1,5 @@
 -- Rows that tell panels fold to the panels' reaches. Assumes nothing.
-use Rattle.std.proofs.Common.{◌≡◌, ℕ, zero, suc, ◌+◌, ◌≤◌, List, [], length, get_or, replicate, ap, ◌∙◌, ap₂, arith}
-use lib.ListN.{get_or-replicate}
+use Rattle.std.proofs.Common.{◌≡◌, ℕ, zero, suc, ◌+◌, ◌≤◌, List, length, ap, ◌∙◌, ap₂, arith}
 use Rattle.segment_tree.specs.Joins.{fold_of}
 use Rattle.segment_tree.specs.Trees.{elements}
 use Rattle.segment_tree.proofs.Spans.{fold_none, fold_cat, fold_one}
@@ -28,14 +27,3 @@ rows_fold W H cells qs long told (suc n) t le =
     ap (λ b. fold_of no_reach farther cells t b) next
     ∙ fold_cat reach_laws cells t (t + 1) (t + 1 + n) (omega arith) (omega arith)
     ∙ ap₂ farther (fold_one reach_laws cells t no_reach (omega arith) ∙ told.each t (omega arith)) (rows_fold W H cells qs long told n (t + 1) (omega arith))
-
--- empty elements tell no panels
-pub none_told : (W H : ℕ) (cells : List Reach) → cells ≡ replicate H no_reach → Told W H cells []
-none_told W H cells empty = record {
-  inside = λ q a. elim a [ ];
-  each = λ row lt. ap (λ c. get_or c row no_reach) empty ∙ get_or-replicate H row no_reach no_reach lt;
-}
-
--- and no rows tell none
-pub no_rows_told : (W H : ℕ) (cells : List Reach) → H ≡ 0 → Told W H cells []
-no_rows_told W H cells none = record { inside = λ q a. elim a [ ]; each = λ row lt. absurd (omega arith) }

@@ -1,7 +1,6 @@
 -- Halving the rows for a panel's best place. Assumes nothing.
 use Rattle.std.proofs.Common.{◌≡◌, ℕ, ◌+◌, ◌-◌, ◌<◌, ◌≤◌, List, Some, None, Option, sym, refl, ap, ◌∙◌, subst, ap₂, arith}
 use Rattle.shapes.specs.declared.sides.Side.{Side}
-use Rattle.shapes.specs.declared.sides.Side.TheVariants.{Left, Right}
 use Rattle.shapes.specs.declared.sides.Clear.{Clear}
 use Rattle.shapes.specs.Form.{Form, Real}
 use Rattle.places.specs.declared.parts.Span.{Span}
@@ -33,36 +32,26 @@ keeps_leaves z S p around None above is h = tt
 keeps_leaves z S p around (Some n) above is h = λ lt.
     subst (λ b. n.used ≤ room (beside p (widest p.form.extent (n.top + z.line - p.y)) b)) (sym is) (keeps_to z S p n (above n refl) h lt)
 
--- the place of what fits in a span, nearest to its side, ends within the span
-pub against_ends : (s : Side) (b : Span) (w : ℕ) → w ≤ room b → 0 < w → against s b w + w ≤ b.to
-against_ends Left b w fits some = omega arith
-against_ends Right b w fits some = omega arith
-
 -- one row y, on which b is free, for a panel w wide; the open line's band is `around`
 module _ (rows : Rows) (m : Span) (L : ℕ) (current : Option Line) (around : Span) (side : Side) (f : Form) (y w : ℕ) (b : Span)
-    (is-w : w ≡ f.wide)
-    (is-around : (qs : List Placed) → Tells rows qs → around ≡ line_band m qs L current)
+    (is_w : w ≡ f.wide)
+    (is_around : (qs : List Placed) → Tells rows qs → around ≡ line_band m qs L current)
     (is_free : (qs : List Placed) → Tells rows qs → b ≡ free m qs y)
     (S : Scene) (c : Clear) (shows : Shows rows m current S) (low : first_row S (wanted side c f) ≤ y) where
   free_is : free S.margins S.placed y ≡ b
   free_is = ap (λ s. free s S.placed y) shows.margins ∙ sym (is_free S.placed shows.placed)
 
   near_is : near S (wanted side c f) y ≡ against side b w
-  near_is = ap₂ (against side) free_is (sym is-w)
+  near_is = ap₂ (against side) free_is (sym is_w)
 
   around_is : around ≡ line_band S.margins S.placed L S.current
   around_is =
-      is-around S.placed shows.placed
+      is_around S.placed shows.placed
       ∙ ap (λ s. line_band s S.placed L current) (sym shows.margins)
       ∙ ap (line_band S.margins S.placed L) (sym shows.current)
 
   above : (l : Line) → S.current ≡ Some l → l.top ≤ y
   above l is = (first_row_to S (wanted side c f) y low).low.lines l.top (shows.settled.listed l is)
-
-  pub too_narrow : room b < w → OnRow (sizes_of rows L) S (wanted side c f) y None
-  too_narrow thin g =
-      let fits = subst (λ s. s.from + f.wide ≤ s.to) free_is g.fits in
-      omega arith
 
   pub too_tight : (x : ℕ) → x ≡ against side b w → (Leaves L around (panel_at side x y f) current → ⊥) → OnRow (sizes_of rows L) S (wanted side c f) y None
   too_tight x is_x never g =

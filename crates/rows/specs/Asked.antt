@@ -4,7 +4,7 @@
 --     panel_at s x y f             a panel of the form f that stands on side s at (x, y)
 --     Ends n L H                   the open line n, if any, ends within H rows
 --     Shows rows m n scene         the rows, the margins m and the open line n are those of the scene, which is settled
---     BoxInside rows f q          a box of the form f whose upper left corner is at q lies on the sheet
+--     BoxInside rows f q           a box of the form f whose upper left corner is at q lies on the sheet
 use Rattle.std.specs.Prelude.{◌≡◌, ℕ, ◌+◌, ◌≤◌, Some, None, Option}
 use Rattle.shapes.specs.declared.sides.Side.{Side}
 use Rattle.shapes.specs.declared.sides.Clear.{Clear}

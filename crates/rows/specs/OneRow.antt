@@ -1,7 +1,7 @@
 -- What is found out of a panel on one row. Assumes nothing.
 --     line_band m qs L current   the open line's band, or the margins m where no line is open
 --     Leaves L around p current  the open line, whose band is `around`, keeps its room beside the panel p
---     OnRow z S o y r           r is the nearest place of row y, which is good, or none, and the row is not
+--     OnRow z S o y r            r is the nearest place of row y, which is good, or none, and the row is not
 use Rattle.std.specs.Prelude.{◌≡◌, ℕ, ◌+◌, ◌-◌, ◌<◌, ◌≤◌, List, Some, None, Option}
 use Rattle.places.specs.declared.parts.Span.{Span}
 use Rattle.places.specs.declared.parts.Line.{Line}

@@ -1,5 +1,7 @@
 // The rows of a sheet: the bands between its panels, the least row for a line, the best place for a panel, and taking a
 // panel in. A row is told by its reach, one element of a tree over lent cells, so each question is a few joins.
+#![tactic(auto)]
+
 use reaches::reach::Reach;
 use segment_tree::Tree;
 

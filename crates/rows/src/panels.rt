@@ -19,7 +19,7 @@ use shapes::sides::{Clear, Side};
 
 // The greatest extent of a shape's first n rows.
 fn widest_of<S: Shape>(shape: &S, n: u32) -> u32
-    ensures { result ≡ widest (model shape.now).extent n }
+    ensures { result ≡ widest (S.model shape.now).extent n }
 {
     let mut most = 0;
     for k in 0..n {
@@ -41,10 +41,10 @@ fn keeps<S: Shape>(
     y: u32,
     shape: &S,
 ) -> bool
-    requires small { x + (model shape.now).wide < 2 ^ 32 }
+    requires small { x + (S.model shape.now).wide < 2 ^ 32 }
     requires ends { Ends current line most_units }
-    ensures kept { T result → Leaves line around (panel_at side x y (model shape.now)) current }
-    ensures lost { Leaves line around (panel_at side x y (model shape.now)) current → T result }
+    ensures kept { T result → Leaves line around (panel_at side x y (S.model shape.now)) current }
+    ensures lost { Leaves line around (panel_at side x y (S.model shape.now)) current → T result }
 {
     let Some(words) = current else {
         return true;
@@ -88,9 +88,9 @@ impl<'a> Rows<'a> {
         requires margins { margins.to ≤ self.now.width }
         requires ends { Ends current line self.now.height }
         requires around { (qs : List Placed) → Tells self.now qs → around ≡ line_band margins qs line current }
-        requires high { y + (model shape.now).tall ≤ self.now.height }
-        ensures inside { IfSome result (λ x. x + (model shape.now).wide ≤ self.now.width) }
-        ensures told { (scene : Scene) (c : Clear) → Shows self.now margins current scene → first_row scene (wanted side c (model shape.now)) ≤ y → OnRow (sizes_of self.now line) scene (wanted side c (model shape.now)) y result }
+        requires high { y + (S.model shape.now).tall ≤ self.now.height }
+        ensures inside { IfSome result (λ x. x + (S.model shape.now).wide ≤ self.now.width) }
+        ensures told { (scene : Scene) (c : Clear) → Shows self.now margins current scene → first_row scene (wanted side c (S.model shape.now)) ≤ y → OnRow (sizes_of self.now line) scene (wanted side c (S.model shape.now)) y result }
     {
         let width = shape.width();
         let free = self.free_on(margins, y);
@@ -119,8 +119,8 @@ impl<'a> Rows<'a> {
         requires fit { Fit self.now }
         requires margins { margins.to ≤ self.now.width }
         requires ends { Ends current line self.now.height }
-        ensures inside { IfSome result (BoxInside self.now (model shape.now)) }
-        ensures told { (scene : Scene) (c : Clear) → Shows self.now margins current scene → first_row scene (wanted side c (model shape.now)) ≡ start → Found (sizes_of self.now line) scene (wanted side c (model shape.now)) result }
+        ensures inside { IfSome result (BoxInside self.now (S.model shape.now)) }
+        ensures told { (scene : Scene) (c : Clear) → Shows self.now margins current scene → first_row scene (wanted side c (S.model shape.now)) ≡ start → Found (sizes_of self.now line) scene (wanted side c (S.model shape.now)) result }
     {
         let around = self.open_band(margins, line, current);
         let mut found = None;

@@ -15,11 +15,11 @@ impl<'a> Rows<'a> {
     // A panel stands at this place from now on. Its box lies on the sheet.
     pub fn take_in<S: Shape>(&mut self, side: Side, place: Place, shape: &S)
         requires fit { Fit self.old }
-        requires wide { place.x + (model shape.now).wide ≤ self.old.width }
-        requires high { place.y + (model shape.now).tall ≤ self.old.height }
+        requires wide { place.x + (S.model shape.now).wide ≤ self.old.width }
+        requires high { place.y + (S.model shape.now).tall ≤ self.old.height }
         ensures fit { Fit self.new }
         ensures stays { Stays self.old self.new }
-        ensures told { (qs : List Placed) → Tells self.old qs → Tells self.new (panel_at side place.x place.y (model shape.now) ∷ qs) }
+        ensures told { (qs : List Placed) → Tells self.old qs → Tells self.new (panel_at side place.x place.y (S.model shape.now) ∷ qs) }
     {
         let width = shape.width();
         for k in 0..shape.height() {

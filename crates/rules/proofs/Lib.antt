@@ -3,4 +3,3 @@ pub mod Traces
 pub mod Right
 pub mod Orders
 pub mod Replies
-pub mod Totals

@@ -1,14 +1,14 @@
 -- Every account of a run is orderly. Assumes nothing.
-use Rattle.std.proofs.Common.{◌≡◌, ℕ, ◌+◌, ◌<◌, ◌≤◌, Bool, true, false, cond, not, ◌&&◌, ltb, leb, List, [], ◌∷◌, length, is_some, Some, None, Option, sym, refl, ap, ◌∙◌, subst, ⊎_elim, arith, ltb-true, leb-false, leb-true}
+use Rattle.std.proofs.Common.{◌≡◌, ℕ, ◌+◌, ◌<◌, ◌≤◌, Bool, true, false, not, ◌&&◌, ltb, leb, List, [], ◌∷◌, length, is_some, Some, None, Option, sym, refl, ap, ◌∙◌, subst, ⊎_elim, arith, ltb-true, leb-false, leb-true}
 use Rattle.std.proofs.lemmas.Bool.{cases_lt}
 use Rattle.shapes.specs.Form.{Real}
 use Rattle.places.specs.declared.parts.Span.{Span}
 use Rattle.places.specs.declared.parts.Line.{Line}
-use Rattle.places.specs.Panels.{Placed, Among, here, there, bottom, area_on}
+use Rattle.places.specs.Panels.{Placed, Among, area_on}
 use Rattle.places.specs.Bands.{room, band}
-use Rattle.places.specs.Permitted.{Wanted, put, Keeps, Permitted, Best}
-use Rattle.places.specs.Lines.{Wide, Least}
-use Rattle.places.specs.Theorems.{Within, Settled}
+use Rattle.places.specs.Permitted.{Wanted, put, Keeps, Best}
+use Rattle.places.specs.Lines.{Wide}
+use Rattle.places.specs.Theorems.{Settled}
 use Rattle.places.proofs.Bands.{itself, within_room, band_in, band_off, band_from}
 use Rattle.places.proofs.Panels.{among_more, area_below}
 use Rattle.rules.specs.declared.refusals.Refusal.{Refusal}
@@ -16,7 +16,7 @@ use Rattle.rules.specs.declared.refusals.Refusal.TheVariants.{NoParagraph, Alrea
 use Rattle.rules.specs.Refusals.{first}
 use Rattle.rules.specs.declared.paragraphs.Paragraph.{Paragraph}
 use Rattle.rules.specs.Account.{Size, rows_of, Account, fresh, scene, closed, reserved, full, between, most_paragraphs, early_open, early_panel, with_open, with_panel, with_end, shut_boxes}
-use Rattle.rules.specs.Words.{Joins, longer, with_word, with_line, WordStep, word_joins, word_opens, Words, all_set, stopped, one_set}
+use Rattle.rules.specs.Words.{longer, with_word, with_line, WordStep, word_joins, word_opens, Words, all_set, stopped, one_set}
 use Rattle.rules.specs.Runs.{Call, Answer, Event, Step, Run, start, next, open_refused, open_done, panel_refused, panel_none, panel_done, flow_refused, flow_done, end_refused, end_done}
 use Rattle.rules.specs.Orderly.{OnSheet, InMargins, InBand, Orderly}
 use Rattle.rules.specs.Theorems.{RunsAreOrderly}
@@ -30,9 +30,9 @@ none_three false true r d e f h = absurd (some_none refl h)
 none_three false false true d e f h = absurd (some_none refl h)
 none_three false false false d e f h = (refl, refl, refl)
 
-not-false : (b : Bool) → not b ≡ false → b ≡ true
-not-false true h = refl
-not-false false h = sym h
+not_false : (b : Bool) → not b ≡ false → b ≡ true
+not_false true h = refl
+not_false false h = sym h
 
 and_both : (a b : Bool) → (a && b) ≡ true → (a ≡ true) × (b ≡ true)
 and_both true b h = (refl, h)
@@ -54,7 +54,7 @@ below_band m qs p t n low =
 open_para : (z : Size) (A : Account) (m : Span) → early_open z A m ≡ None → (A.para ≡ None) × (A.count < most_paragraphs) × (m.from < m.to) × (m.to ≤ z.width)
 open_para z A m h =
     let t = none_three (is_some A.para) (leb most_paragraphs A.count) (not (ltb m.from m.to && leb m.to z.width)) AlreadyOpen ManyParagraphs BadMargins h in
-    let b = and_both (ltb m.from m.to) (leb m.to z.width) (not-false _ t.2) in
+    let b = and_both (ltb m.from m.to) (leb m.to z.width) (not_false _ t.2) in
     (none_open A.para t.0, leb-false _ _ t.1, ltb-true _ _ b.0, leb-true _ _ b.1)
   where
     none_open : (o : Option Paragraph) → is_some o ≡ false → o ≡ None

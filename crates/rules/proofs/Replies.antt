@@ -1,5 +1,5 @@
 -- The computed answer is the answer, and the only one. Assumes nothing.
-use Rattle.std.proofs.Common.{◌≡◌, ℕ, ◌+◌, ◌<◌, ◌≤◌, max, Bool, true, false, cond, not, ltb, leb, List, [], ◌∷◌, drop, is_some, Some, None, Option, sym, refl, ap, ◌∙◌, subst, arith, ltb-false, ltb-true, leb-false, leb-true}
+use Rattle.std.proofs.Common.{◌≡◌, ℕ, ◌+◌, ◌≤◌, Bool, true, false, cond, not, ltb, leb, List, [], ◌∷◌, drop, is_some, Some, None, Option, sym, refl, ap, subst, arith, ltb-false, ltb-true, leb-false, leb-true}
 use Rattle.shapes.specs.declared.sides.Clear.{Clear}
 use Rattle.shapes.specs.Form.{Real}
 use Rattle.places.specs.declared.parts.Span.{Span}
@@ -7,7 +7,7 @@ use Rattle.places.specs.declared.parts.Line.{Line}
 use Rattle.places.specs.declared.parts.Place.{Place}
 use Rattle.places.specs.Bands.{room, band}
 use Rattle.places.specs.Permitted.{Wanted}
-use Rattle.places.specs.Tried.{bottoms, best_place, least_row}
+use Rattle.places.specs.Tried.{best_place, least_row}
 use Rattle.places.specs.Theorems.{Found, Sought}
 use Rattle.places.proofs.Firsts.{bottoms_to, bottoms_from}
 use Rattle.places.proofs.Tries.{trying_finds, trying_seeks}
@@ -17,7 +17,7 @@ use Rattle.rules.specs.Refusals.{first}
 use Rattle.rules.specs.declared.paragraphs.Paragraph.{Paragraph}
 use Rattle.rules.specs.Account.{Size, rows_of, Account, scene, closed, full, between, numbered, start_row, early_open, early_panel, early_end, opening_top, with_open}
 use Rattle.rules.specs.Words.{Apart, longer, with_word, WordStep, word_joins, word_opens, WordRefused, word_wide, word_full, word_none, Words, all_set, stopped, one_set}
-use Rattle.rules.specs.Runs.{Call, Answer, Event, Step, Run, opens, flows, panels, ends, opened, open_refused, open_done, panel_refused, panel_none, panel_done, flow_refused, flow_done, end_refused, end_done}
+use Rattle.rules.specs.Runs.{Call, Step, opens, flows, panels, ends, opened, open_refused, open_done, panel_refused, panel_none, panel_done, flow_refused, flow_done, end_refused, end_done}
 use Rattle.rules.specs.Orderly.{Orderly}
 use Rattle.rules.specs.Computed.{Reply, reply, unless, place_reply, panel_reply, Outcome, set, stops, line_at, new_line, on_line, word_outcome, Flow, continued, flow_words, flow_reply, end_reply, reply_to}
 use Rattle.rules.specs.Theorems.{Sensible, OneAnswer, OpeningIsLeast}

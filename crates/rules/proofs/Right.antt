@@ -1,17 +1,17 @@
 -- The law over whole runs. Assumes nothing.
-use Rattle.std.proofs.Common.{◌≡◌, ℕ, ◌+◌, ◌<◌, ◌≤◌, Bool, true, false, ltb, List, [], ◌∷◌, ◌++◌, length, get_or, take, drop, Some, None, Option, sym, refl, ap, ◌∙◌, subst, arith}
+use Rattle.std.proofs.Common.{◌≡◌, ℕ, ◌+◌, ◌<◌, Bool, true, false, ltb, List, [], ◌∷◌, ◌++◌, length, get_or, take, drop, Some, Option, sym, refl, ap, ◌∙◌, subst, arith}
 use Rattle.places.specs.declared.parts.Line.{Line}
-use Rattle.places.specs.Permitted.{Wanted, Permitted}
+use Rattle.places.specs.Permitted.{Wanted}
 use Rattle.rules.specs.declared.refusals.Refusal.{Refusal}
 use Rattle.rules.specs.declared.refusals.Refusal.TheVariants.{NoParagraph, WidePanel, ListFull, NoPlace}
 use Rattle.rules.specs.Refusals.{first}
 use Rattle.rules.specs.declared.paragraphs.Paragraph.{Paragraph}
-use Rattle.rules.specs.Account.{Size, rows_of, Account, scene, closed, full, between}
-use Rattle.rules.specs.Words.{Apart, LeastAt, WordStep, word_joins, word_opens, WordRefused, word_wide, word_full, word_none, Words, all_set, stopped, one_set}
-use Rattle.rules.specs.Runs.{Call, Answer, Event, Step, Run, start, next, flows, panels, ends, flowed, stands, ended, refused, open_refused, open_done, panel_refused, panel_none, panel_done, flow_refused, flow_done, end_refused, end_done}
-use Rattle.rules.specs.Moments.{Mark, sets, does, word_marks, marks, Plain, Trace, word, other, stood_at, stood}
-use Rattle.rules.specs.Law.{StoodBest, Placeless, BegunBest, Homeless, Filled, Fate, stays, grows, is_ended, is_filled, Right, RunsAreRight}
-use Rattle.rules.proofs.Single.{same_some, some_none, alone}
+use Rattle.rules.specs.Account.{Size, Account, closed, full, between}
+use Rattle.rules.specs.Words.{Apart, LeastAt, WordStep, word_joins, word_opens, word_wide, word_full, word_none, Words, all_set, stopped, one_set}
+use Rattle.rules.specs.Runs.{Call, Answer, Event, Step, Run, start, next, flows, panels, flowed, stands, refused, open_refused, open_done, panel_refused, panel_none, panel_done, flow_refused, flow_done, end_refused, end_done}
+use Rattle.rules.specs.Moments.{Mark, sets, does, word_marks, Plain, Trace, word, other, stood_at, stood}
+use Rattle.rules.specs.Law.{StoodBest, Placeless, Homeless, Fate, stays, grows, is_ended, is_filled, RunsAreRight}
+use Rattle.rules.proofs.Single.{same_some, alone}
 use Rattle.rules.proofs.Traces.{word_para, words_traced, traced, trace_one, SetWord, trace_word, quiet_kept, counted, moment_of}
 
 -- the moment of an event of a run

@@ -1,15 +1,13 @@
 -- A call has one answer and leads to one account, so that the calls alone decide. Assumes nothing.
-use Rattle.std.proofs.Common.{◌≡◌, ℕ, suc, ◌+◌, ◌<◌, ◌≤◌, Bool, true, false, not, List, [], ◌∷◌, drop, is_some, Some, None, Option, sym, refl, ap, ◌∙◌, subst, ap₂, subst₂, arith}
-use Rattle.places.specs.declared.parts.Line.{Line}
+use Rattle.std.proofs.Common.{◌≡◌, ℕ, suc, Bool, true, false, not, List, [], ◌∷◌, drop, is_some, Some, None, Option, sym, refl, ap, subst, ap₂, subst₂, arith}
 use Rattle.places.specs.Permitted.{Wanted, Best}
 use Rattle.places.proofs.Nearest.{one_best}
 use Rattle.places.proofs.Tries.{one_least}
 use Rattle.rules.specs.declared.refusals.Refusal.{Refusal}
-use Rattle.rules.specs.declared.refusals.Refusal.TheVariants.{WideWord, ListFull, NoPlace}
 use Rattle.rules.specs.declared.paragraphs.Paragraph.{Paragraph}
-use Rattle.rules.specs.Account.{Size, rows_of, Account, scene, full, closed, with_panel, with_end}
-use Rattle.rules.specs.Words.{Joins, Apart, LeastAt, longer, with_word, with_line, WordStep, word_joins, word_opens, WordRefused, word_wide, word_full, word_none, Words, all_set, stopped, one_set}
-use Rattle.rules.specs.Runs.{Call, Answer, Event, Step, Run, start, next, calls, opens, flows, panels, ends, opened, flowed, stands, ended, refused, open_refused, open_done, panel_refused, panel_none, panel_done, flow_refused, flow_done, end_refused, end_done}
+use Rattle.rules.specs.Account.{Size, rows_of, Account, scene, closed, with_panel, with_end}
+use Rattle.rules.specs.Words.{longer, with_word, with_line, WordStep, word_joins, word_opens, WordRefused, word_wide, word_full, word_none, Words, all_set, stopped, one_set}
+use Rattle.rules.specs.Runs.{Call, Answer, Event, Step, Run, start, next, calls, flowed, stands, refused, open_refused, open_done, panel_refused, panel_none, panel_done, flow_refused, flow_done, end_refused, end_done}
 
 -- two values of one option
 pub same_some : {A : Type 0} {o : Option A} {a b : A} → o ≡ Some a → o ≡ Some b → a ≡ b

@@ -1,5 +1,5 @@
 -- The moments of a run, word by word. Assumes nothing.
-use Rattle.std.proofs.Common.{◌≡◌, ℕ, ◌+◌, ◌≤◌, List, [], ◌∷◌, ◌++◌, take, Some, None, Option, sym, refl, ap, ◌∙◌, subst, arith}
+use Rattle.std.proofs.Common.{◌≡◌, ℕ, ◌≤◌, List, [], ◌∷◌, ◌++◌, take, Some, Option, sym, refl, ap, ◌∙◌, subst, arith}
 use Rattle.places.specs.declared.parts.Line.{Line}
 use Rattle.rules.specs.declared.refusals.Refusal.{Refusal}
 use Rattle.rules.specs.declared.paragraphs.Paragraph.{Paragraph}

@@ -2,10 +2,10 @@
 --     Size            what a new sheet is given: its width, height, line height, and the places of its list
 --     Account         panels, lines, boxes, cursor, paragraphs and the open line after some calls
 --     scene A p       what a panel or a word of the paragraph p is judged against
---     early-..        the refusals of a call that are judged before its work, in their order
---     with-..         the account after a call that is done
+--     early_..        the refusals of a call that are judged before its work, in their order
+--     with_..         the account after a call that is done
 --     open_line z A   the box that the open line would have if it closed now, if there is one
-use Rattle.std.specs.Prelude.{ℕ, ◌+◌, max, Bool, true, false, not, ◌&&◌, List, [], ◌∷◌, length, is_some, Some, None, Option, ◌==◌, nat_le, nat_lt}
+use Rattle.std.specs.Prelude.{ℕ, ◌+◌, max, Bool, false, not, ◌&&◌, List, [], ◌∷◌, length, is_some, Some, None, Option, ◌==◌, nat_le, nat_lt}
 use Rattle.shapes.specs.declared.sides.Clear.{Clear}
 use Rattle.places.specs.declared.parts.Span.{Span}
 use Rattle.places.specs.declared.parts.Line.{Line}

@@ -1,6 +1,6 @@
 -- The worked examples, as one table: calls on a new sheet, their answers, and the boxes in list order. Assumes nothing.
---     Example         a sheet's calls, with the answers and the list of boxes that they come to
---     TableStands    each example of the table comes to what it says
+--     Example       a sheet's calls, with the answers and the list of boxes that they come to
+--     TableStands   each example of the table comes to what it says
 use Rattle.std.specs.Prelude.{◌≡◌, ℕ, ◌*◌, List, [], ◌∷◌, reverse, Some, None}
 use Rattle.shapes.specs.declared.sides.Side.{Side}
 use Rattle.shapes.specs.declared.sides.Side.TheVariants.{Left, Right}

@@ -1,10 +1,10 @@
 -- What holds at every moment of every run: the sheet holds the best that the rules allow. Assumes nothing.
 --     StoodBest z B o x y   on the account B the panel o has (x, y) as its best place
---     Placeless z B o        on the account B no place is permitted for the panel o
---     Homeless z sp B a      on the account B the word fits neither the open line nor a row open to it
---     Fate z B l C m         what the moment m made of the open line l, with the account B before it and C after it
---     Right z past A         the law of the run past, whose account is A
-use Rattle.std.specs.Prelude.{◌≡◌, ℕ, ◌+◌, ◌<◌, List, [], ◌∷◌, ◌++◌, length, take, drop, Some, None, Option, slice_index}
+--     Placeless z B o       on the account B no place is permitted for the panel o
+--     Homeless z sp B a     on the account B the word fits neither the open line nor a row open to it
+--     Fate z B l C m        what the moment m made of the open line l, with the account B before it and C after it
+--     Right z past A        the law of the run past, whose account is A
+use Rattle.std.specs.Prelude.{◌≡◌, ℕ, ◌+◌, ◌<◌, List, ◌∷◌, ◌++◌, length, take, drop, Some, slice_index}
 use Rattle.places.specs.declared.parts.Line.{Line}
 use Rattle.places.specs.Permitted.{Wanted, Permitted, Best}
 use Rattle.places.specs.Lines.{Wide}

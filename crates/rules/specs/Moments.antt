@@ -3,7 +3,7 @@
 --     marks es     the moments of the calls es, the newest first
 --     Trace z ms A the moments ms came to a new sheet, and A is its account
 --     Quiet ms     no word is set in ms, and no paragraph ends
-use Rattle.std.specs.Prelude.{◌≡◌, ℕ, List, [], ◌∷◌, take, drop, Some, None, Option, ◌≢◌}
+use Rattle.std.specs.Prelude.{◌≡◌, ℕ, List, [], ◌∷◌, take, drop, Some, ◌≢◌}
 use Rattle.places.specs.Panels.{Placed}
 use Rattle.places.specs.Permitted.{put}
 use Rattle.rules.specs.declared.paragraphs.Paragraph.{Paragraph}

@@ -1,6 +1,6 @@
 -- What every account of a run has. Assumes nothing.
 --     Orderly z A   its panels lie on the sheet, its open line stands in its open paragraph and holds its words, and its list has room
-use Rattle.std.specs.Prelude.{◌≡◌, ℕ, ◌+◌, ◌<◌, ◌≤◌, length, Some}
+use Rattle.std.specs.Prelude.{◌≡◌, ◌+◌, ◌<◌, ◌≤◌, length, Some}
 use Rattle.shapes.specs.Form.{Real}
 use Rattle.places.specs.declared.parts.Line.{Line}
 use Rattle.places.specs.Panels.{Placed, Among, bottom}

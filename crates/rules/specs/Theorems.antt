@@ -1,8 +1,8 @@
 -- What is proved of the rules, beside the law over runs. Assumes nothing.
---     Sensible c          a panel call has a shape
---     RunsAreOrderly    every account of a run is orderly
---     OneAnswer          a call on the account of a run has an answer, and one only: the computed one
---     OpeningIsLeast    a paragraph's top is the least row from the cursor on that is clear of the cleared panels
+--     Sensible c       a panel call has a shape
+--     RunsAreOrderly   every account of a run is orderly
+--     OneAnswer        a call on the account of a run has an answer, and one only: the computed one
+--     OpeningIsLeast   a paragraph's top is the least row from the cursor on that is clear of the cleared panels
 use Rattle.std.specs.Prelude.{◌≡◌, ℕ, ◌≤◌, true, List}
 use Rattle.shapes.specs.declared.sides.Clear.{Clear}
 use Rattle.shapes.specs.Form.{Real, clears}

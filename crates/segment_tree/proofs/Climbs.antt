@@ -1,5 +1,5 @@
 -- The steps of a walk up and down, and where it ends. Assumes nothing.
-use Rattle.std.proofs.Common.{◌≡◌, ℕ, zero, suc, ◌+◌, ◌-◌, ◌*◌, ◌/◌, ◌%◌, ◌^◌, ◌<◌, ◌≤◌, Bool, true, false, List, length, get_or, sym, ap, ◌∙◌, ⊎_elim, mul_assoc, mul_comm, add-mul, eq-zero-or-pos, one-mul, pow-suc, zero-mul, mul-one, le-mul_of_pos_right, arith, pow_pos}
+use Rattle.std.proofs.Common.{◌≡◌, ℕ, zero, suc, ◌+◌, ◌*◌, ◌/◌, ◌%◌, ◌^◌, ◌<◌, ◌≤◌, Bool, true, false, List, length, get_or, sym, ap, ◌∙◌, ⊎_elim, mul_assoc, mul_comm, add-mul, eq-zero-or-pos, one-mul, pow-suc, zero-mul, mul-one, le-mul_of_pos_right, arith, pow_pos}
 use native.Mathlib.Nat.{pow-zero}
 use Rattle.segment_tree.specs.Joins.{Laws, total, fold_of}
 use Rattle.segment_tree.specs.Cells.{Agrees, leaves}

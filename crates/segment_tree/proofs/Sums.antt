@@ -17,11 +17,6 @@ module _ {M : Type 0} (none : M) (op : M → M → M) (cs : List M) where
       let e1 : r ≡ get_or cs (2 * at + 1) none = right ∙ get_or_default cs (2 * at + 1) r none (omega arith) in
       made ∙ ap (λ y. op y r) e0 ∙ ap (op (get_or cs (2 * at) none)) e1
 
-  -- a cell that already holds its join is a sum
-  pub stays : (at : ℕ) (x old : M) → at < length cs → x ≡ op (get_or cs (2 * at) none) (get_or cs (2 * at + 1) none)
-      → old ≡ get_or cs at old → x ≡ old → SumAt none op cs at
-  stays at x old h made read same = get_or_default cs at none old h ∙ sym read ∙ sym same ∙ made
-
   -- a cell that is joined anew is a sum, and so stays each other that does not stand right above it
   pub mended : (at : ℕ) (x : M) → at < length cs → x ≡ op (get_or cs (2 * at) none) (get_or cs (2 * at + 1) none)
       → (k : ℕ) → 2 * k ≢ at → 2 * k + 1 ≢ at → (k ≢ at → SumAt none op cs k) → SumAt none op (set cs at x) k

@@ -1,6 +1,6 @@
 -- How many leaves a tree of n elements has. Assumes nothing.
---     LeastPower n p      p is the least power of two not below n
---     leaf_count n         computes it
+--     LeastPower n p    p is the least power of two not below n
+--     leaf_count n      computes it
 --     LeafCountIsLeast  that it does, and that there is no other
 use Rattle.std.specs.Prelude.{◌≡◌, ℕ, zero, suc, ◌*◌, ◌^◌, ◌≤◌, cond, nat_le}
 

@@ -1,6 +1,6 @@
 -- How far a run of elements goes within a limit. Assumes nothing.
 --     Longest none op ok xs a b     b is the end of the longest run from a on whose join is ok
---     OneLongestRun none op fits  there is at most one such end, whatever the limit
+--     OneLongestRun none op fits    there is at most one such end, whatever the limit
 use Rattle.std.specs.Prelude.{◌≡◌, ℕ, ◌<◌, ◌≤◌, Bool, true, List, length, ◌≢◌}
 use Rattle.segment_tree.specs.Joins.{fold_of}
 

@@ -8,9 +8,9 @@ use crate::Element;
 
 // The join of the leaves a to b - 1: of the nodes at the two ends that no wider node takes in, level by level.
 pub(crate) fn fold<E: Element>(cells: &[E], size: usize, a: usize, b: usize) -> E
-    requires agrees { Agrees none op size cells.now }
+    requires agrees { Agrees E.none E.op size cells.now }
     requires order { (a < b) × (b ≤ size) }
-    ensures { result ≡ fold_of none op cells.now (size + a) (size + b) }
+    ensures { result ≡ fold_of E.none E.op cells.now (size + a) (size + b) }
 {
     let mut low = size + a;
     let mut high = size + b;
@@ -33,9 +33,9 @@ pub(crate) fn fold<E: Element>(cells: &[E], size: usize, a: usize, b: usize) -> 
 
 // Sets leaf i, and the cells above it up to the first that stays as it was.
 pub(crate) fn put<E: Element>(cells: &mut [E], size: usize, i: usize, e: E)
-    requires agrees { Agrees none op size cells.old }
+    requires agrees { Agrees E.none E.op size cells.old }
     requires inside { i < size }
-    ensures agrees { Agrees none op size cells.new }
+    ensures agrees { Agrees E.none E.op size cells.new }
     ensures after { drop size cells.new ≡ slice_set (drop size cells.old) i e }
 {
     let mut node = size + i;
@@ -53,7 +53,7 @@ pub(crate) fn put<E: Element>(cells: &mut [E], size: usize, i: usize, e: E)
 // Joins every inner cell anew, the lowest first.
 pub(crate) fn join_all<E: Element>(cells: &mut [E], size: usize)
     requires { 2 * size ≤ length cells.old }
-    ensures agrees { Agrees none op size cells.new }
+    ensures agrees { Agrees E.none E.op size cells.new }
     ensures after { drop size cells.new ≡ drop size cells.old }
 {
     for node in (1..size).rev() {
@@ -64,7 +64,7 @@ pub(crate) fn join_all<E: Element>(cells: &mut [E], size: usize)
 // Makes the first n cells empty.
 pub(crate) fn clear<E: Element>(cells: &mut [E], n: usize)
     requires { n ≤ length cells.old }
-    ensures empty { (k : ℕ) → k < n → slice_index_or cells.new k none ≡ none }
+    ensures empty { (k : ℕ) → k < n → slice_index_or cells.new k E.none ≡ E.none }
     ensures rest { drop n cells.new ≡ drop n cells.old }
 {
     for k in 0..n {

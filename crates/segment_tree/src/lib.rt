@@ -1,5 +1,6 @@
 // A tree of joins over any kind of element, in a lent slice of cells: set one element, join a range, find the longest
 // run that keeps within a limit, each in about as many steps as the number of elements has binary digits.
+#![tactic(auto)]
 
 // What an element is: how two are joined, and when one is within a limit.
 mod element;

@@ -23,11 +23,11 @@ pub(crate) fn climb<E: Element>(
     a: usize,
     limit: &E::Limit,
 ) -> Stand<E>
-    requires agrees { Agrees none op size cells.now }
+    requires agrees { Agrees E.none E.op size cells.now }
     requires order { (a ≤ n) × (n ≤ size) }
-    requires start { fits none limit.now ≡ true }
-    ensures held { Held none op (λ x. fits x limit.now) size n cells.now a result.at result.node result.width result.joined }
-    ensures stuck { Stuck none op (λ x. fits x limit.now) size n cells.now a result.at result.width }
+    requires start { E.fits E.none limit.now ≡ true }
+    ensures held { Held E.none E.op (λ x. E.fits x limit.now) size n cells.now a result.at result.node result.width result.joined }
+    ensures stuck { Stuck E.none E.op (λ x. E.fits x limit.now) size n cells.now a result.at result.width }
 {
     let mut at = a;
     let mut node = size + a;
@@ -69,11 +69,11 @@ pub(crate) fn descend<E: Element>(
     limit: &E::Limit,
     start: Stand<E>,
 ) -> usize
-    requires agrees { Agrees none op size cells.now }
+    requires agrees { Agrees E.none E.op size cells.now }
     requires order { (a ≤ n) × (n ≤ size) }
-    requires held { Held none op (λ x. fits x limit.now) size n cells.now a start.at start.node start.width start.joined }
-    requires stuck { Stuck none op (λ x. fits x limit.now) size n cells.now a start.at start.width }
-    ensures { Longest none op (λ x. fits x limit.now) (leaves size n cells.now) a result }
+    requires held { Held E.none E.op (λ x. E.fits x limit.now) size n cells.now a start.at start.node start.width start.joined }
+    requires stuck { Stuck E.none E.op (λ x. E.fits x limit.now) size n cells.now a start.at start.width }
+    ensures { Longest E.none E.op (λ x. E.fits x limit.now) (leaves size n cells.now) a result }
 {
     let mut at = start.at;
     let mut node = start.node;
@@ -96,7 +96,7 @@ pub(crate) fn descend<E: Element>(
 
 // Of the ends that a run from one place may have, at most one is the longest.
 pub fn one_longest_run<E: Element>() -> u8
-    ensures { OneLongestRun none op fits }
+    ensures { OneLongestRun E.none E.op E.fits }
 {
     0
 }

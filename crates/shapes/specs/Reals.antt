@@ -32,6 +32,9 @@ box_real w p h =
       past = λ k le. cond-false (nat_lt k p) w 0 (le-ltb k p le);
     }
 
+pub plain_real : (w p : ℕ) → in_range w ≡ true → in_range p ≡ true → Real (box_form w p)
+plain_real w p h k = box_real w p (and_from (in_range w) (in_range p) h k)
+
 pub stairs_real : (w : ℕ) (ss : List Step) → stairs_fit w ss ≡ true → Real (stairs_form w ss)
 stairs_real w ss h =
     let a = and_parts (in_range w) (count_fits ss && (steps_fit w ss && in_range (rows_of ss))) h in

@@ -1,8 +1,8 @@
 -- What the definitions of this crate amount to. Assumes nothing.
---     InStep ss i k           row k lies in step i
---     RowHasItsStep ss k      the extent of row k, by the step that it lies in
+--     InStep ss i k        row k lies in step i
+--     RowHasItsStep ss k   the extent of row k, by the step that it lies in
 --     RowsHaveTheirSteps   so it is with every row of any steps
---     MadeAreReal             what is made is a shape, and no box that is one is refused
+--     MadeAreReal          what is made is a shape, and no box that is one is refused
 use Rattle.std.specs.Prelude.{◌≡◌, ℕ, ◌+◌, ◌<◌, ◌≤◌, List, length, take, Some, None, slice_index_or}
 use Rattle.shapes.specs.declared.stairs.Step.{Step}
 use Rattle.shapes.specs.Form.{Form, Real}

@@ -1,7 +1,7 @@
 -- How far a word moves the pen, at least and at most. Assumes nothing.
 use Rattle.std.proofs.Common.{◌≡◌, ℕ, ◌+◌, ◌*◌, ◌<◌, ◌≤◌, true, leb, List, [], ◌∷◌, length, get_or, drop, ap, ◌∙◌, arith}
 use Rattle.metrics.specs.Advance.{Advances}
-use Rattle.std.specs.List.{AllByRecursion as All}
+use Rattle.std.specs.List.{AllByRecursion}
 use Rattle.std.proofs.ByRecursion.{All-get_or, All-from_get_or}
 use Rattle.std.proofs.lemmas.List.{get_or-take, get_or-drop, get_or-map, length-take, length-drop}
 use Rattle.std.proofs.lemmas.List.Sums.{sum_by-cons}
@@ -24,7 +24,7 @@ module _ (text : List ℕ) (w : Span) (is : IsWord text w) where
       let within = is.within in
       length-take w.length (drop w.place text) ∙ omega arith
 
-  bytes_inked : All Ink (bytes_of text w)
+  bytes_inked : AllByRecursion Ink (bytes_of text w)
   bytes_inked =
       All-from_get_or Ink (bytes_of text w) 0
       (λ i h.
@@ -41,7 +41,7 @@ module _ (adv : ℕ → ℕ) (law : Advances adv) where
       let high = leb-true b 126 parts.1 in
       (law.least b (omega arith, high), law.most b (omega arith, high))
 
-  bytes_move : (bytes : List ℕ) → All Ink bytes → (length bytes ≤ advance_of adv bytes) × (advance_of adv bytes ≤ 255 * length bytes)
+  bytes_move : (bytes : List ℕ) → AllByRecursion Ink bytes → (length bytes ≤ advance_of adv bytes) × (advance_of adv bytes ≤ 255 * length bytes)
   bytes_move [] tt = (omega arith, omega arith)
   bytes_move (b ∷ bs) (h, hs) =
       let here = ink_moves b h in

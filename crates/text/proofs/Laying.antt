@@ -1,11 +1,10 @@
 -- Lists and trees written from the first place on. Assumes nothing.
 use Rattle.std.proofs.Common.{◌≡◌, ℕ, ◌+◌, ◌*◌, ◌<◌, ◌≤◌, List, [], ◌∷◌, ◌++◌, map, length, get_or, take, drop, set, sym, ap, ◌∙◌, zero-add, arith}
-use lib.ListN.{length-map}
 use Rattle.segment_tree.specs.Trees.{elements, Kept, Shaped}
 use Rattle.segment_tree.specs.declared.segment.Tree.{Tree}
 use Rattle.segment_tree.proofs.Leaves.{length_leaves}
 use Rattle.std.proofs.lemmas.List.Edits.{sets, sets-eq}
-use Rattle.std.proofs.lemmas.List.{take_more_set, map_more}
+use Rattle.std.proofs.lemmas.List.{length-map, take_more_set, map_more}
 use Rattle.text.specs.Measure.{laid}
 
 sets_laid : {X : Type 0} (new old : List X) → length new ≤ length old → sets old 0 new ≡ laid new old

@@ -1,7 +1,6 @@
 -- The sum that is held at a number is a lawful join, and so are runs. Assumes nothing.
-use Rattle.std.proofs.Common.{⊎_elim, sym, ap, ◌∙◌, mul-le-mul_left}
+use Rattle.std.proofs.Common.{⊎_elim, sym, ap, ◌∙◌, mul-le-mul_left, arith}
 use Rattle.std.specs.Prelude.{◌≡◌, ℕ, ◌+◌, ◌-◌, ◌<◌, ◌≤◌, min, max}
-use native.Mathlib.Omega.{arith}
 use Rattle.segment_tree.specs.Joins.{Laws}
 use Rattle.std.proofs.lemmas.Bool.{cases_lt, leb-true, le-leb}
 use Rattle.text.specs.Run.{largest, held_sum, SumsAreHeld, no_run, longer, width_of, has_room}

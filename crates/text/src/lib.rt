@@ -1,4 +1,5 @@
 // Measured text: where the words of a text are, how far each moves the pen, and how wide any run of them is.
+#![tactic(auto)]
 
 // Why a text is not measured.
 mod faults;

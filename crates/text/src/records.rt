@@ -18,7 +18,7 @@ pub struct Word {
 // How far these bytes move the pen, one after another.
 fn advance<M: Metrics>(metrics: &M, bytes: &[u8]) -> u32
     requires { length bytes.now ≤ longest_text }
-    ensures { result ≡ advance_of (advances metrics.now) bytes.now }
+    ensures { result ≡ advance_of (M.advances metrics.now) bytes.now }
 {
     let mut sum = 0;
     for byte in bytes {
@@ -31,7 +31,7 @@ fn advance<M: Metrics>(metrics: &M, bytes: &[u8]) -> u32
 fn record<M: Metrics>(metrics: &M, text: &[u8], span: Span) -> Word
     requires short { length text.now ≤ longest_text }
     requires within { end span ≤ length text.now }
-    ensures { result ≡ word_of (advances metrics.now) text.now span }
+    ensures { result ≡ word_of (M.advances metrics.now) text.now span }
 {
     let place = span.place;
     let end = place + span.length;
@@ -47,7 +47,7 @@ pub(crate) fn record_all<M: Metrics>(metrics: &M, text: &[u8], words: &mut [Word
     requires short { length text.now ≤ longest_text }
     requires room { length (words_of text.now) ≤ length words.old }
     ensures count { result ≡ length (words_of text.now) }
-    ensures list { words.new ≡ laid (measured (advances metrics.now) text.now) words.old }
+    ensures list { words.new ≡ laid (measured (M.advances metrics.now) text.now) words.old }
 {
     let mut count = 0;
     let mut at = 0;

@@ -1,10 +1,9 @@
 -- One text: its words together are one run, and it is measured where nothing refuses it. Assumes nothing.
 use Rattle.std.proofs.Common.{◌≡◌, ℕ, ◌-◌, ◌≤◌, List, map, length, Some, None, Ok, Option, sym, refl, ap, ◌∙◌, arith}
-use lib.ListN.{length-map}
 use Rattle.lexer.specs.Lines.{FileLine}
 use Rattle.metrics.specs.Advance.{Advances}
 use Rattle.segment_tree.specs.Joins.{total, fold_of}
-use Rattle.std.proofs.lemmas.List.{take_all}
+use Rattle.std.proofs.lemmas.List.{length-map, take_all}
 use Rattle.std.proofs.lemmas.Bool.Decides.{nat_tests}
 use Rattle.text.proofs.Measuring.{all_accepted}
 use Rattle.text.specs.Fault.{longest_text, or_else, long_fault, byte_fault}

@@ -110,7 +110,7 @@ module _ (adv : ℕ → ℕ) where
       let from = h.from in
       let within = h.within in
       let rest = text_measures adv (n + 1) ls in
-      ⊎_elim
+      ⊎_elim {C = text_measures adv n (l ∷ ls) ≡ Err x}
       (λ later.
       let next : suc (x.line - (n + 1)) ≡ x.line - n = omega arith in
       let m = ok_value (text_measure adv n l) (ap is_ok (first_line n l) ∙ h.before 0 (omega arith)) in

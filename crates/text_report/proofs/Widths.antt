@@ -1,17 +1,15 @@
 -- The words of a text as one run: its two sums never come near the number that they are held at. Assumes nothing.
 use Rattle.std.proofs.Common.{◌≡◌, ℕ, ◌+◌, ◌*◌, ◌≤◌, true, leb, List, [], ◌∷◌, map, length, get_or, drop, sum_by, sym, refl, ap, ◌∙◌, subst, arith}
-use lib.ListN.{length-map}
 use Rattle.metrics.specs.Advance.{Advances}
 use Rattle.segment_tree.specs.Joins.{total}
 use Rattle.std.proofs.ByRecursion.{All-from_get_or, sum_by_le}
-use Rattle.std.proofs.lemmas.List.{get_or-take, get_or-drop, length-take}
+use Rattle.std.proofs.lemmas.List.{length-map, get_or-take, get_or-drop, length-take}
 use Rattle.std.proofs.lemmas.List.Sums.{sum_by-cons}
 use Rattle.std.proofs.lemmas.Bool.{and_parts, leb-true}
 use Rattle.text.specs.Fault.{longest_text}
 use Rattle.text.specs.Measure.{bytes_of, word_of, measured, run_of}
 use Rattle.text.specs.Run.{largest, held_sum, no_run, longer}
 use Rattle.text.specs.declared.records.Word.{Word}
-use Rattle.text.specs.declared.runs.Run.{Run}
 use Rattle.words.specs.Words.{ink, end, words_of}
 use Rattle.words.specs.declared.spans.Span.{Span}
 use Rattle.words.proofs.Walks.{Step, Walk, all_walked, half_as_many_words}

@@ -1,4 +1,5 @@
 // What the texts of a file measure to, line by line, and what is reported of them.
+#![tactic(auto)]
 
 // Why a file is refused, and on which line.
 pub mod faults;

@@ -66,7 +66,7 @@ fn texts<M: Metrics>(
     requires few { 1 + length (left lines.old) < 2 ^ 64 }
     requires records { most_words ≤ length words.old }
     requires cells { most_cells ≤ length cells.old }
-    ensures { Tells (text_measures (advances metrics.now) 2 (left lines.old)) result }
+    ensures { Tells (text_measures (M.advances metrics.now) 2 (left lines.old)) result }
 {
     let mut texts = Vec::new(heap);
     let mut number = 1;

@@ -64,7 +64,7 @@ pub(crate) fn measure_text<M: Metrics>(
 ) -> Result<Measured, FileFault>
     requires records { most_words ≤ length words.old }
     requires cells { most_cells ≤ length cells.old }
-    ensures { result ≡ text_measure (advances metrics.now) number (line_of line.entry) }
+    ensures { result ≡ text_measure (M.advances metrics.now) number (line_of line.entry) }
 {
     ended(line)?;
     accepted(line.bytes, words, cells)?;

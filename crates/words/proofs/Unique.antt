@@ -1,6 +1,6 @@
 -- A text has no other words than those of a walk over it.
 use Rattle.std.proofs.Common.{◌≡◌, ℕ, ◌<◌, ◌≤◌, List, [], ◌∷◌, length, get_or, sym, refl, subst, ⊎_elim, arith}
-use Rattle.std.specs.List.{AllByRecursion as All}
+use Rattle.std.specs.List.{AllByRecursion}
 use Rattle.std.proofs.ByRecursion.{All-weaker}
 use Rattle.std.proofs.lemmas.Bool.{both_ways, cases_Bool, cases_lt}
 use Rattle.words.specs.declared.spans.Span.{Span}
@@ -9,7 +9,7 @@ use Rattle.words.specs.Law.{Inked, Blank, Word, Apart, Once, WordsAreThese}
 use Rattle.words.proofs.Walks.{Step, Walk, all_walked}
 
 -- a byte up to e lies in no word that begins after e
-not_once : (e k : ℕ) (ws : List Span) → All (λ v. e < v.place) ws → k ≤ e → Once k ws → ⊥
+not_once : (e k : ℕ) (ws : List Span) → AllByRecursion (λ v. e < v.place) ws → k ≤ e → Once k ws → ⊥
 not_once e k [] later h once = once
 not_once e k (w ∷ ws) (here, later) h once =
     ⊎_elim (λ o. omega (arith, o.0.0)) (λ o. not_once e k ws later h o.1) once
@@ -22,7 +22,7 @@ module _ (text : List ℕ) where
   not_inked : (k : ℕ) → (Inked text k → ⊥) → Blank text k
   not_inked k refuted = ⊎_elim (λ e. absurd (refuted e)) (λ e. e) (cases_Bool (ink (get_or text k 0)))
 
-  walked : (at : ℕ) (ws : List Span) → All (Word text) ws → Apart ws → All (λ v. at ≤ v.place) ws → Covered at ws → Walk text at ws
+  walked : (at : ℕ) (ws : List Span) → AllByRecursion (Word text) ws → Apart ws → AllByRecursion (λ v. at ≤ v.place) ws → Covered at ws → Walk text at ws
   walked at [] runs apart from covered = λ k h below. not_inked k (covered k h below)
   walked at (w ∷ ws) (run, runs) (later, apart) (from, others) covered =
       let skips : (k : ℕ) → at ≤ k → k < w.place → Blank text k =

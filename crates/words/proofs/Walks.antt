@@ -1,6 +1,6 @@
 -- A walk over the words of a text: from it follows what the words are, and that no other list is so.
 use Rattle.std.proofs.Common.{◌≡◌, ℕ, zero, suc, ◌+◌, ◌*◌, ◌<◌, ◌≤◌, ◌⊎◌, List, [], ◌∷◌, length, get_or, sym, refl, ap, ◌∙◌, subst, inl, inr, ⊎_elim, arith}
-use Rattle.std.specs.List.{AllByRecursion as All}
+use Rattle.std.specs.List.{AllByRecursion}
 use Rattle.std.proofs.ByRecursion.{All-weaker}
 use Rattle.std.proofs.lemmas.Bool.{both_ways, cases_lt, not-true}
 use Rattle.words.specs.declared.spans.Span.{Span}
@@ -69,7 +69,7 @@ module _ (text : List ℕ) where
       absurd (both_ways _ (ended (omega (arith, s.some, s.within))) (s.inked at (omega arith, omega (arith, s.some)))))
       (cases_lt at w.place)
 
-  all_later : (at : ℕ) (ws : List Span) → Walk text at ws → Ended at → All (λ v. at < v.place) ws
+  all_later : (at : ℕ) (ws : List Span) → Walk text at ws → Ended at → AllByRecursion (λ v. at < v.place) ws
   all_later at [] walked ended = tt
   all_later at (w ∷ ws) (s, walked) ended =
       let here = later at w s ended in
@@ -95,7 +95,7 @@ module _ (text : List ℕ) where
   abbrev Fresh : ℕ → Type 0
   Fresh at = (at ≡ 0) ⊎ Ended at
 
-  all_runs : (at : ℕ) (ws : List Span) → Walk text at ws → Fresh at → All (Word text) ws
+  all_runs : (at : ℕ) (ws : List Span) → Walk text at ws → Fresh at → AllByRecursion (Word text) ws
   all_runs at [] walked fresh = tt
   all_runs at (w ∷ ws) (s, walked) fresh =
       let clear : (k : ℕ) → k + 1 ≡ w.place → at ≤ k =

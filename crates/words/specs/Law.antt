@@ -6,7 +6,7 @@
 --     Once k ws       the byte at k lies in one of ws, and in one only
 --     Words text ws   ws are the words of the text, in their order
 use Rattle.std.specs.Prelude.{◌≡◌, ℕ, ◌+◌, ◌*◌, ◌<◌, ◌≤◌, true, false, ◌⊎◌, List, [], ◌∷◌, length, slice_index}
-use Rattle.std.specs.List.{AllByRecursion as All}
+use Rattle.std.specs.List.{AllByRecursion}
 use Rattle.words.specs.declared.spans.Span.{Span}
 use Rattle.words.specs.Words.{ink, end, words_of}
 
@@ -29,14 +29,14 @@ pub record Word (text : List ℕ) (w : Span) : Type 0 where
 
 abbrev pub Apart : List Span → Type 0
 Apart [] = Unit {0}
-Apart (w ∷ ws) = All (λ v. end w < v.place) ws × Apart ws
+Apart (w ∷ ws) = AllByRecursion (λ v. end w < v.place) ws × Apart ws
 
 abbrev pub Once : ℕ → List Span → Type 0
 Once k [] = ⊥
-Once k (w ∷ ws) = (Holds w k × All (λ v. Holds v k → ⊥) ws) ⊎ ((Holds w k → ⊥) × Once k ws)
+Once k (w ∷ ws) = (Holds w k × AllByRecursion (λ v. Holds v k → ⊥) ws) ⊎ ((Holds w k → ⊥) × Once k ws)
 
 pub record Words (text : List ℕ) (ws : List Span) : Type 0 where
-  pub runs : All (Word text) ws
+  pub runs : AllByRecursion (Word text) ws
   pub apart : Apart ws
   pub covered : (k : ℕ) → k < length text → Inked text k → Once k ws
 

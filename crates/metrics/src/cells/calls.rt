@@ -1,6 +1,5 @@
 // Making a cell, and what it answers as a metrics.
 ghost use Rattle.metrics.specs.Making.{MakesCell};
-ghost use Rattle.std.proofs.Common.{rules, arith};
 
 use crate::Unfit;
 use crate::advances::Metrics;
@@ -23,7 +22,7 @@ impl Cell {
 impl Metrics for Cell {
     ghost advances = { λ m _. m.advance };
 
-    ghost ranges = { first_of (Prim.search rules, Prim.grind (arith, Self.row.coded.inj)) };
+    ghost ranges = { λ m. record { least = λ _ _. m.least; most = λ _ _. m.most } };
 
     fn advance(&self, _byte: u8) -> u8 {
         self.advance

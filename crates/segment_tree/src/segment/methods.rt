@@ -11,7 +11,7 @@ use crate::{Element, cells as work, powers, runs};
 impl<'a, E: Element> Tree<'a, E> {
     // A tree of `count` empty elements, where there are cells enough.
     pub fn new(cells: &'a mut [E], count: usize) -> Option<Tree<'a, E>>
-        ensures { MatchOption result (length cells.old < 2 * leaf_count count) (λ t. Fresh none op cells.old count t) }
+        ensures { MatchOption result (length cells.old < 2 * leaf_count count) (λ t. Fresh E.none E.op cells.old count t) }
     {
         if !powers::enough(cells.len(), count) {
             return None;
@@ -23,7 +23,7 @@ impl<'a, E: Element> Tree<'a, E> {
 
     // A tree of no elements. It takes no cells and writes none.
     pub fn vacant(cells: &'a mut [E]) -> Tree<'a, E>
-        ensures { Vacant none op cells.old result }
+        ensures { Vacant E.none E.op cells.old result }
     {
         Tree {
             cells,
@@ -41,8 +41,8 @@ impl<'a, E: Element> Tree<'a, E> {
 
     // Element i becomes e, or nothing changes and the answer is false where there is no element i.
     pub fn set(&mut self, i: usize, e: E) -> bool
-        requires { Sound none op self.old }
-        ensures sound { Sound none op self.new }
+        requires { Sound E.none E.op self.old }
+        ensures sound { Sound E.none E.op self.new }
         ensures answer { result ≡ nat_lt i self.old.count }
         ensures kept { Kept self.old self.new }
         ensures after { elements self.new ≡ slice_set (elements self.old) i e }
@@ -77,7 +77,7 @@ impl<'a, E: Element> Tree<'a, E> {
     // Joins everything anew, after `lay`.
     pub fn join_all(&mut self)
         requires { Shaped self.old }
-        ensures sound { Sound none op self.new }
+        ensures sound { Sound E.none E.op self.new }
         ensures kept { Kept self.old self.new }
         ensures after { elements self.new ≡ elements self.old }
     {
@@ -88,8 +88,8 @@ impl<'a, E: Element> Tree<'a, E> {
     // The join of the elements a to b - 1, in order. A b past the last element counts as the number of elements, and
     // where that leaves none, the answer is the empty element.
     pub fn fold(&self, a: usize, b: usize) -> E
-        requires { Sound none op self.now }
-        ensures { result ≡ fold_of none op (elements self.now) a b }
+        requires { Sound E.none E.op self.now }
+        ensures { result ≡ fold_of E.none E.op (elements self.now) a b }
     {
         let end = b.min(self.count);
         if a >= end {
@@ -100,8 +100,8 @@ impl<'a, E: Element> Tree<'a, E> {
 
     // The greatest b up to which the elements from a on join to what is within the limit, or a where there is none.
     pub fn longest_run(&self, a: usize, limit: &E::Limit) -> usize
-        requires { Sound none op self.now }
-        ensures { Longest none op (λ x. fits x limit.now) (elements self.now) a result }
+        requires { Sound E.none E.op self.now }
+        ensures { Longest E.none E.op (λ x. E.fits x limit.now) (elements self.now) a result }
     {
         if a > self.count || !E::empty().within(limit) {
             return a;

@@ -1,6 +1,6 @@
 // What a plain box answers.
 ghost use Rattle.shapes.specs.Models.{plain_model};
-ghost use Rattle.std.proofs.Common.{rules, arith};
+ghost use Rattle.shapes.specs.Reals.{plain_real};
 
 use crate::Shape;
 use crate::plain::Plain;
@@ -8,7 +8,7 @@ use crate::plain::Plain;
 impl Shape for Plain {
     ghost model = { plain_model };
 
-    ghost real = { first_of (Prim.search rules, Prim.grind (arith, Self.row.coded.inj)) };
+    ghost real = { λ b. plain_real b.width b.height b.broad b.high };
 
     fn width(&self) -> u32 {
         self.width

@@ -50,7 +50,7 @@ pub fn measure<'a, M: Metrics>(
     words: &'a mut [Word],
     cells: &'a mut [Run],
 ) -> Text<'a>
-    ensures { Measures (advances metrics.now) text.now words.old cells.old result }
+    ensures { Measures (M.advances metrics.now) text.now words.old cells.old result }
 {
     let space = metrics.advance(b' ');
     if fault(text, words, cells).is_some() {

@@ -9,6 +9,6 @@ pub returns : goal.returns
 returns c = λ qs told.
     let width = c.args.self.now.width in
     let margins = c.args.margins in
-    c.left-over.ensures
-    ∙ ap (left_over Areas width margins) (c.reach-of.ensures qs told)
+    c.left_over.ensures
+    ∙ ap (left_over Areas width margins) (c.reach_of.ensures qs told)
     ∙ sym (areas_leave_the_band width margins qs c.args.top c.args.n c.requires.margins told.inside)

@@ -14,10 +14,7 @@ loop-low-preserved g c =
       c.loop-low.invariant.4,
     )
 
-pub returns : goal.returns
-returns g c = record {
-  inside = c.loop-low.invariant.4;
-  told =
-      halved c.args.self.now c.args.margins c.args.line c.args.current c.args.start c.args.side (g.S.Shape.model c.args.shape.now)
-      (g.met.S.Shape.real c.args.shape.now) c.loop-low.low c.loop-low.high c.loop-low.found (omega arith) c.loop-low.invariant.2 c.loop-low.invariant.3;
-}
+pub returns-clause-told : goal.returns-clause-told
+returns-clause-told g c =
+    halved c.args.self.now c.args.margins c.args.line c.args.current c.args.start c.args.side (g.S.Shape.model c.args.shape.now)
+    (g.met.S.Shape.real c.args.shape.now) c.loop-low.low c.loop-low.high c.loop-low.found (omega arith) c.loop-low.invariant.2 c.loop-low.invariant.3

@@ -1,5 +1,5 @@
--- What the boxes' reach leaves is what is free, and ends within the margins.
-use Rattle.std.proofs.Common.{sym, ap, ◌∙◌, arith}
+-- What the boxes' reach leaves is what is free.
+use Rattle.std.proofs.Common.{sym, ap, ◌∙◌}
 use Rattle.reaches.specs.declared.reach.Taken.TheVariants.{Boxes}
 use Rattle.reaches.specs.Reaches.{left_over}
 use Rattle.reaches.specs.Panels.{row_reach}
@@ -7,14 +7,10 @@ use Rattle.reaches.specs.Laws.{reach_laws}
 use Rattle.reaches.proofs.Bands.{boxes_leave_the_free}
 use Rattle.rows.proofs.Rows.free_on.Goals as goal
 
-pub returns : goal.returns
-returns c =
+pub returns-clause-told : goal.returns-clause-told
+returns-clause-told c = λ qs told.
     let width = c.args.self.now.width in
     let margins = c.args.margins in
-    record {
-      inside = omega (arith, ap (λ s. s.to) c.left-over.ensures);
-      told = λ qs told.
-          c.left-over.ensures
-          ∙ ap (left_over Boxes width margins) (c.reach-of.ensures qs told ∙ reach_laws.right_neutral (row_reach width qs c.args.y))
-          ∙ sym (boxes_leave_the_free width margins qs c.args.y c.requires.margins told.inside);
-    }
+    c.left_over.ensures
+    ∙ ap (left_over Boxes width margins) (c.reach_of.ensures qs told ∙ reach_laws.right_neutral (row_reach width qs c.args.y))
+    ∙ sym (boxes_leave_the_free width margins qs c.args.y c.requires.margins told.inside)

@@ -12,5 +12,5 @@ returns c = λ qs told.
     let margins = c.args.margins in
     let band = areas_leave_the_band width margins qs c.args.top c.args.line c.requires.margins told.inside in
     c.within.ensures
-    ∙ ap (λ r. leb c.args.need (room (left_over Areas width margins r))) (c.reach-of.ensures qs told)
+    ∙ ap (λ r. leb c.args.need (room (left_over Areas width margins r))) (c.reach_of.ensures qs told)
     ∙ ap (λ b. leb c.args.need (room b)) (sym band)

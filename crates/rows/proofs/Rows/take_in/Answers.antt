@@ -7,12 +7,6 @@ use Rattle.rows.proofs.Folds.{long_enough}
 use Rattle.rows.proofs.Grown.{Grown, row_taken, grown_more, grown_all, stays_on}
 use Rattle.rows.proofs.Rows.take_in.Goals as goal
 
-pub reach-on-taken-requires : goal.reach-on-taken-requires
-reach-on-taken-requires g c =
-    let within = (g.met.S.Shape.real c.args.shape.now).within c.loop-k.k in
-    let wide = c.width-width.ensures in
-    record { whole = omega (arith, c.requires.wide, c.loop-k.invariant.1.width); part = omega (arith, c.extent-extent.ensures) }
-
 pub loop-k-preserved : goal.loop-k-preserved
 loop-k-preserved g c =
     let f = g.S.Shape.model c.args.shape.now in
@@ -26,15 +20,15 @@ loop-k-preserved g c =
     let small : k < f.tall = omega (arith, c.height-k-end.ensures) in
     let inside : c.args.place.y + k < length (elements now.tree) = omega (arith, long_enough now fit, stays.height, c.requires.high) in
     let reach =
-    row_taken before.width now.width c.width-width.result c.extent-extent.result q k c.reach-on-taken.result
-    small stays.width c.width-width.ensures c.extent-extent.ensures c.reach-on-taken.ensures in (
+    row_taken before.width now.width c.width-width.result c.extent-extent.result q k c.reach_on-taken.result
+    small stays.width c.width-width.ensures c.extent-extent.ensures c.reach_on-taken.ensures in (
       c.widen.ensures.fit,
       stays_on before now next stays c.widen.ensures.stays,
-      grown_more before.width q k (elements before.tree) (elements now.tree) (elements next.tree) c.reach-on-taken.result inside c.loop-k.invariant.2 reach c.widen.ensures.after,
+      grown_more before.width q k (elements before.tree) (elements now.tree) (elements next.tree) c.reach_on-taken.result inside c.loop-k.invariant.2 reach c.widen.ensures.after,
     )
 
-pub returns : goal.returns
-returns g c =
+pub returns-clause-told : goal.returns-clause-told
+returns-clause-told g c = λ qs told.
     let f = g.S.Shape.model c.args.shape.now in
     let q = panel_at c.args.side c.args.place.x c.args.place.y f in
     let before = c.args.self.now in
@@ -42,10 +36,5 @@ returns g c =
     let stays = c.loop-k.invariant.1 in
     let all : c.loop-k.k ≡ f.tall = omega (arith, c.height-k-end.ensures, c.loop-k.auto.k-end) in
     let grown = subst (λ n. Grown before.width q n (elements before.tree) (elements now.tree)) all c.loop-k.invariant.2 in
-    record {
-      fit = c.loop-k.invariant.0;
-      stays = stays;
-      told = λ qs told.
-          subst₂ (λ W H. Told W H (elements now.tree) (q ∷ qs)) (sym stays.width) (sym stays.height)
-          (grown_all before.width before.height q (elements before.tree) (elements now.tree) (g.met.S.Shape.real c.args.shape.now) c.requires.wide grown qs told);
-    }
+    subst₂ (λ W H. Told W H (elements now.tree) (q ∷ qs)) (sym stays.width) (sym stays.height)
+    (grown_all before.width before.height q (elements before.tree) (elements now.tree) (g.met.S.Shape.real c.args.shape.now) c.requires.wide grown qs told)

@@ -1,5 +1,5 @@
 -- Each turn moves the odd nodes at the ends to what is joined, and goes up a level.
-use Rattle.std.proofs.Common.{◌≡◌, ◌+◌, ◌-◌, ◌*◌, ◌/◌, ◌%◌, ◌≤◌, arith, rules}
+use Rattle.std.proofs.Common.{◌≡◌, ◌+◌, ◌*◌, ◌/◌, ◌%◌, ◌≤◌, arith, rules}
 use Rattle.segment_tree.specs.Joins.{fold_of}
 use Rattle.segment_tree.proofs.Spans.{double, from_front, from_back}
 use Rattle.segment_tree.proofs.cells.fold.Goals as goal

@@ -1,33 +1,9 @@
 -- Each turn halves the width, and passes the left half where it fits.
-use Rattle.std.proofs.Common.{◌≡◌, ◌+◌, ◌/◌, sym, ap, ◌∙◌, subst, arith, rules}
+use Rattle.std.proofs.Common.{◌≡◌, ◌+◌, ◌/◌, sym, ap, ◌∙◌, subst, arith}
 use Rattle.segment_tree.specs.Joins.{fold_of}
 use Rattle.segment_tree.specs.Walk.{Stuck}
-use Rattle.segment_tree.proofs.Climbs.{node_lt, node_le, wide_pos, down, half, blocked, along, longest}
+use Rattle.segment_tree.proofs.Climbs.{wide_pos, down, half, blocked, along, longest}
 use Rattle.segment_tree.proofs.runs.descend.Goals as goal
-
-pub overflow-mul-node : goal.overflow-mul-node
-overflow-mul-node g c =
-    let le = node_le (down c.loop-width.invariant.0 c.loop-width-test.true) in
-    let long = c.requires.agrees.long in
-    search rules
-
-pub offset-bounds-cells-node : goal.offset-bounds-cells-node
-offset-bounds-cells-node g c =
-    let lt = node_lt (down c.loop-width.invariant.0 c.loop-width-test.true) c.requires.order.1 (omega arith) in
-    let long = c.requires.agrees.long in
-    omega arith
-
-pub bounds-cells-node : goal.bounds-cells-node
-bounds-cells-node g c =
-    let lt = node_lt (down c.loop-width.invariant.0 c.loop-width-test.true) c.requires.order.1 (omega arith) in
-    let long = c.requires.agrees.long in
-    omega arith
-
-pub overflow-add-node : goal.overflow-add-node
-overflow-add-node g c =
-    let lt = node_lt (down c.loop-width.invariant.0 c.loop-width-test.true) c.requires.order.1 (omega arith) in
-    let long = c.requires.agrees.long in
-    search rules
 
 pub loop-width-preserved-then-within : goal.loop-width-preserved-then-within
 loop-width-preserved-then-within g c =

@@ -8,7 +8,7 @@ pub returns : goal.returns
 returns g c =
     let text = c.args.text.now in
     let left = words_left text c.loop-span.at in
-    let none = c.in-default.ensures.next in
+    let none = c.in_default.ensures.next in
     let over : length left ≡ 0 = rw none in
     record {
       count = omega arith;

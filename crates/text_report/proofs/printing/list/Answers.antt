@@ -7,9 +7,9 @@ use Rattle.text_report.proofs.printing.list.Goals as goal
 pub loop-text-preserved : goal.loop-text-preserved
 loop-text-preserved c =
     let out = string_bytes c.loop-text.out in
-    let shown = c.as-str.ensures.value ∙ c.in-ok-line.ensures.ok in
-    let pushed = c.in-ok-push-str.ensures.bytes ∙ ap (λ bs. out ++ bs) shown in
-    joined_drop_more text_line c.args.texts.now c.loop-text.text-index out (record { line = 0; words = 0; width = 0 }) (string_bytes c.push-str.new.self)
+    let shown = c.as_str.ensures.value ∙ c.in_ok-line.ensures.ok in
+    let pushed = c.in_ok-push_str.ensures.bytes ∙ ap (λ bs. out ++ bs) shown in
+    joined_drop_more text_line c.args.texts.now c.loop-text.text-index out (record { line = 0; words = 0; width = 0 }) (string_bytes c.push_str.new.self)
     c.loop-text-test.true pushed
     ∙ c.loop-text.invariant
 
@@ -17,5 +17,5 @@ pub returns : goal.returns
 returns c =
     let out = string_bytes c.loop-text.out in
     let all = sym (joined_drop_all text_line c.args.texts.now c.loop-text.text-index out c.loop-text-test.false) ∙ c.loop-text.invariant in
-    let shown = c.as-str-2.ensures.value ∙ c.in-ok-last.ensures.ok ∙ ap total_line c.sum-total.ensures in
-    c.in-ok-push-str-2.ensures.bytes ∙ ap (λ bs. out ++ bs) shown ∙ ap (λ bs. bs ++ total_line (total_of c.args.texts.now)) all
+    let shown = c.as_str-2.ensures.value ∙ c.in_ok-last.ensures.ok ∙ ap total_line c.sum-total.ensures in
+    c.in_ok-push_str-2.ensures.bytes ∙ ap (λ bs. out ++ bs) shown ∙ ap (λ bs. bs ++ total_line (total_of c.args.texts.now)) all

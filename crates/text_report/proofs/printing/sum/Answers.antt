@@ -8,8 +8,8 @@ use Rattle.text_report.proofs.printing.sum.Goals as goal
 abbrev none : Measured
 none = record { line = 0; words = 0; width = 0 }
 
-pub overflow-add-words : goal.overflow-add-words
-overflow-add-words c =
+pub overflow_add-words : goal.overflow_add-words
+overflow_add-words c =
     let i = c.loop-text.text-index in
     let more = sum_by_more (λ m. m.words) c.args.texts.now i none c.loop-text-test.true in
     let most = sum_by-take-le (λ m. m.words) c.args.texts.now (i + 1) in

@@ -10,19 +10,19 @@ loop-line-init g c =
     let all = text_measures (g.M.Metrics.advances c.args.metrics.now) 2 (left c.args.lines.now) in
     (ap (λ ms. behind ms all) c.new-texts.ensures.items ∙ behind_none all, omega arith)
 
-pub overflow-add-number : goal.overflow-add-number
-overflow-add-number g c = let next = ap length c.in-Some.ensures in omega (arith, c.loop-line.invariant.1)
+pub overflow_add-number : goal.overflow_add-number
+overflow_add-number g c = let next = ap length c.in-Some.ensures in omega (arith, c.loop-line.invariant.1)
 
-pub returns-in-err-text : goal.returns-in-err-text
-returns-in-err-text g c =
+pub returns-in_err-text : goal.returns-in_err-text
+returns-in_err-text g c =
     let adv = g.M.Metrics.advances c.args.metrics.now in
     let number = c.loop-line.number + 1 in
-    let is = c.in-err-text.ensures ∙ ap (on_line number) c.measure-text.ensures in
+    let is = c.in_err-text.ensures ∙ ap (on_line number) c.measure_text.ensures in
     let first =
     behind_fault adv number (vec_items c.loop-line.texts) (left c.loop-line.lines) (left c.next.new.self)
-    (line_of c.in-Some.line) c.in-Some.ensures c.in-err-text.field-0.0 is
+    (line_of c.in-Some.line) c.in-Some.ensures c.in_err-text.field-0.0 is
     in
-    let p = err_from_is_err_and c.from-residual.result c.from-residual.ensures.1 in
+    let p = err_from_is_err_and c.from_residual.result c.from_residual.ensures.1 in
     rw (p.1, p.2) (sym c.loop-line.invariant.0 ∙ sym first)
 
 pub loop-line-smaller : goal.loop-line-smaller
@@ -32,11 +32,11 @@ pub loop-line-preserved : goal.loop-line-preserved
 loop-line-preserved g c =
     let adv = g.M.Metrics.advances c.args.metrics.now in
     let number = c.loop-line.number + 1 in
-    let is = c.in-ok-text.ensures ∙ ap (on_line number) c.measure-text.ensures in
+    let is = c.in_ok-text.ensures ∙ ap (on_line number) c.measure_text.ensures in
     let next = ap length c.in-Some.ensures in (
       behind_more adv number (vec_items c.loop-line.texts) (left c.loop-line.lines) (left c.next.new.self)
-          (line_of c.in-Some.line) c.in-Some.ensures c.in-ok-text.text (vec_items c.push.new.self) is
-          c.in-ok-push.ensures.items
+          (line_of c.in-Some.line) c.in-Some.ensures c.in_ok-text.text (vec_items c.push.new.self) is
+          c.in_ok-push.ensures.items
           ∙ c.loop-line.invariant.0,
       omega (arith, c.loop-line.invariant.1),
     )
@@ -44,5 +44,5 @@ loop-line-preserved g c =
 pub returns : goal.returns
 returns g c =
     let adv = g.M.Metrics.advances c.args.metrics.now in
-    let all = behind_all adv (c.loop-line.number + 1) (vec_items c.loop-line.texts) (left c.loop-line.lines) c.in-default.ensures.0 in
+    let all = behind_all adv (c.loop-line.number + 1) (vec_items c.loop-line.texts) (left c.loop-line.lines) c.in_default.ensures.0 in
     sym c.loop-line.invariant.0 ∙ sym all

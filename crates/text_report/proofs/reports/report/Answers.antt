@@ -6,5 +6,5 @@ use Rattle.text_report.proofs.reports.report.Goals as goal
 pub list-requires : goal.list-requires
 list-requires c =
     let few = words_of_file c.args.file.now (vec_items c.in-Ok.texts) c.in-Ok.ensures in
-    let same = ap words_in c.as-slice.ensures.value in
+    let same = ap words_in c.as_slice.ensures.value in
     omega arith

@@ -1,22 +1,9 @@
 -- A part of the elements is a part of the cells, and an end past the last element is the last.
-use Rattle.std.proofs.Common.{◌+◌, ◌≤◌, min, sym, ap, ◌∙◌, arith}
+use Rattle.std.proofs.Common.{◌+◌, min, sym, ap, ◌∙◌, arith}
 use Rattle.segment_tree.specs.Joins.{total, fold_of}
 use Rattle.segment_tree.specs.Trees.{elements}
-use Rattle.segment_tree.proofs.Spans.{fold_none}
 use Rattle.segment_tree.proofs.Leaves.{part_min, part_leaves, length_leaves}
 use Rattle.segment_tree.proofs.segment.Tree.fold.Goals as goal
-
-pub returns-then-a-end : goal.returns-then-a-end
-returns-then-a-end g c =
-    let m = g.E.Element in
-    let t = c.args.self.now in
-    let len = length_leaves t.size t.count t.cells.now c.requires.shaped.long c.requires.shaped.few in
-    let e = c.min-end.ensures in
-    let h = c.if-a-end.true in
-    let cut = part_min (elements t) c.args.a c.args.b t.count len in
-    let past : min c.args.b t.count ≤ c.args.a = omega arith in
-    c.empty.ensures
-    ∙ sym (ap (total m.none m.op) cut ∙ fold_none g.met.E.Element.lawful (elements t) c.args.a (min c.args.b t.count) past)
 
 pub returns : goal.returns
 returns g c =

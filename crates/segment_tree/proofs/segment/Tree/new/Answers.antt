@@ -5,8 +5,8 @@ use Rattle.segment_tree.proofs.Doubling.{leaf_count_least}
 use Rattle.segment_tree.proofs.Leaves.{all_none, leaves_none}
 use Rattle.segment_tree.proofs.segment.Tree.new.Goals as goal
 
-pub leaf-count-size-requires : goal.leaf-count-size-requires
-leaf-count-size-requires g c =
+pub leaf_count-size-requires : goal.leaf_count-size-requires
+leaf_count-size-requires g c =
     let above = (leaf_count_least c.args.count).above in
     let room = leb-true (2 * leaf_count c.args.count) (length c.args.cells.now) (sym c.if-not-enough.ensures) in
     search rules
@@ -14,8 +14,8 @@ leaf-count-size-requires g c =
 pub returns : goal.returns
 returns g c =
     let m = g.E.Element in
-    let q = c.leaf-count-size.result in
-    let is = c.leaf-count-size.ensures in
+    let q = c.leaf_count-size.result in
+    let is = c.leaf_count-size.ensures in
     let above = (leaf_count_least c.args.count).above in
     let room = leb-true (2 * leaf_count c.args.count) (length c.args.cells.now) (sym c.if-not-enough.ensures) in
     let few : c.args.count ≤ q = omega arith in
