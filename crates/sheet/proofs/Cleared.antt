@@ -1,5 +1,5 @@
 -- The bottoms kept as numbers are those of the panels. Assumes nothing.
-use Rattle.std.proofs.Common.{◌≡◌, ℕ, max, true, false, cond, List, [], ◌∷◌, sym, refl, ap, ◌∙◌, ap₂, arith}
+use Rattle.std.proofs.Common.{◌≡◌, ℕ, max, cond, List, [], ◌∷◌, sym, refl, ap, ◌∙◌, arith}
 use Rattle.shapes.specs.declared.sides.Side.{Side}
 use Rattle.shapes.specs.declared.sides.Side.TheVariants.{Left, Right}
 use Rattle.shapes.specs.declared.sides.Clear.{Clear}

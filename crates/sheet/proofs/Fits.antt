@@ -1,12 +1,11 @@
 -- Each index and each sum stays in its range. Assumes nothing.
-use Rattle.std.proofs.Common.{◌≡◌, ℕ, ◌+◌, ◌<◌, ◌≤◌, Bool, true, false, ◌&&◌, ltb, leb, length, Some, None, Option, sym, refl, ap, ◌∙◌, subst, arith, length-set, ltb-true, leb-false, leb-true}
+use Rattle.std.proofs.Common.{◌≡◌, ℕ, ◌+◌, ◌<◌, ◌≤◌, true, false, ◌&&◌, ltb, leb, length, Some, sym, refl, ap, ◌∙◌, subst, arith, length-set, ltb-true, leb-false, leb-true}
 use Rattle.std.proofs.lemmas.Bool.{and_parts}
 use Rattle.places.specs.declared.parts.Span.{Span}
 use Rattle.places.specs.declared.parts.Line.{Line}
 use Rattle.rows.specs.declared.Rows.{Rows}
 use Rattle.rows.specs.Fit.{Fit as Fit-rows, Stays}
 use Rattle.rules.specs.declared.boxes.BoxRecord.{BoxRecord}
-use Rattle.rules.specs.declared.paragraphs.Paragraph.{Paragraph}
 use Rattle.rules.specs.Account.{reserved}
 use Rattle.rules.specs.Words.{longer}
 use Rattle.rules.proofs.Single.{same_some, some_none}
@@ -15,7 +14,7 @@ use Rattle.sheet.specs.View.{View, Fit, FitOpen}
 use Rattle.sheet.specs.Steps.{Closed}
 use Rattle.sheet.proofs.Opens.{opened_view}
 use Rattle.sheet.proofs.Panels.{panel_view}
-use Rattle.sheet.proofs.Lines.{with_current, with_top, Left, left}
+use Rattle.sheet.proofs.Lines.{with_current, with_top, left}
 use Rattle.sheet.proofs.Ends.{ended_view}
 
 pub fit_opened : (v : View) (m : Span) (t : ℕ) → Fit v → (ltb m.from m.to && leb m.to v.rows.width) ≡ true → Fit (opened_view v m t)

@@ -1,5 +1,5 @@
 -- Words one by one and several at once, up to a whole flow. Assumes nothing.
-use Rattle.std.proofs.Common.{◌≡◌, ℕ, suc, ◌+◌, ◌-◌, ◌<◌, ◌≤◌, true, List, [], ◌∷◌, ◌++◌, length, get_or, drop, Some, None, Ok, Err, Option, sym, refl, ap, ◌∙◌, subst, ap₂, arith}
+use Rattle.std.proofs.Common.{◌≡◌, ℕ, suc, ◌+◌, ◌-◌, ◌<◌, ◌≤◌, List, [], ◌∷◌, ◌++◌, length, get_or, drop, Some, None, Ok, Err, Option, sym, refl, ap, ◌∙◌, subst, arith}
 use Rattle.std.proofs.lemmas.List.{drop_more, drop_all}
 use Rattle.places.specs.declared.parts.Line.{Line}
 use Rattle.places.specs.Bands.{room, band}
@@ -12,7 +12,7 @@ use Rattle.rules.specs.declared.refusals.Refusal.TheVariants.{NoParagraph}
 use Rattle.rules.specs.Account.{Size, Account}
 use Rattle.rules.specs.Words.{WordStep, word_joins, Words, all_set, stopped, one_set, longer, with_word}
 use Rattle.rules.specs.Runs.{flows, flowed, flow_refused, flow_done}
-use Rattle.sheet.specs.View.{View, Held}
+use Rattle.sheet.specs.View.{View}
 use Rattle.sheet.specs.Told.{Told, WordTold, Flowing}
 use Rattle.sheet.proofs.Moves.{move, stay}
 use Rattle.sheet.proofs.Panels.{para_of}

@@ -1,5 +1,5 @@
 -- A new sheet. Assumes nothing.
-use Rattle.std.proofs.Common.{◌≡◌, ℕ, ◌*◌, ◌≤◌, Bool, true, false, not, ◌&&◌, ltb, leb, List, [], ◌∷◌, length, drop, is_some, Some, None, Option, sym, refl, ap, ◌∙◌, subst, arith, leb-true}
+use Rattle.std.proofs.Common.{◌≡◌, ℕ, ◌*◌, ◌≤◌, Bool, true, false, not, ◌&&◌, ltb, List, [], ◌∷◌, length, drop, is_some, Some, None, Option, sym, refl, ap, ◌∙◌, subst, arith, leb-true}
 use Rattle.std.proofs.lemmas.Bool.{and_parts}
 use Rattle.segment_tree.specs.LeafCount.{leaf_count}
 use Rattle.shapes.specs.Form.{most_units}
@@ -16,7 +16,7 @@ use Rattle.rules.specs.Account.{Size, fresh}
 use Rattle.rules.specs.Runs.{start}
 use Rattle.rules.proofs.Single.{some_none}
 use Rattle.sheet.specs.declared.store.Store.{Store}
-use Rattle.sheet.specs.View.{View, Kept, Fit}
+use Rattle.sheet.specs.View.{Kept, Fit}
 use Rattle.sheet.specs.Stores.{view}
 use Rattle.sheet.specs.Fresh.{most_line, within, new_refusal, size_of, used_of, empty_view, Fresh}
 

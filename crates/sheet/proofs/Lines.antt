@@ -1,5 +1,5 @@
 -- Words and lines. Assumes nothing.
-use Rattle.std.proofs.Common.{◌≡◌, ℕ, ◌+◌, ◌<◌, ◌≤◌, max, true, false, leb, List, ◌∷◌, length, set, Some, None, Ok, Err, Option, sym, refl, ap, ◌∙◌, subst, ap₂, arith, length-set, drop-set-lt, leb-false}
+use Rattle.std.proofs.Common.{◌≡◌, ℕ, ◌+◌, ◌<◌, ◌≤◌, max, true, false, leb, List, ◌∷◌, length, set, Some, None, Ok, Err, Option, sym, refl, ap, ◌∙◌, subst, arith, length-set, drop-set-lt}
 use native.Mathlib.Numerals.{lt-add-one}
 use Rattle.places.specs.declared.parts.Span.{Span}
 use Rattle.places.specs.declared.parts.Line.{Line}
@@ -9,11 +9,10 @@ use Rattle.places.specs.Permitted.{Scene}
 use Rattle.places.specs.Theorems.{Sought}
 use Rattle.rows.specs.Told.{Tells}
 use Rattle.rows.specs.Asked.{sizes_of}
-use Rattle.rules.specs.declared.boxes.BoxRecord.{BoxRecord}
 use Rattle.rules.specs.declared.paragraphs.Paragraph.{Paragraph}
 use Rattle.rules.specs.declared.refusals.Refusal.TheVariants.{WideWord, ListFull, NoPlace}
 use Rattle.rules.specs.Account.{Size, rows_of, Account, scene, reserved, line_box, shut_boxes, below, start_row}
-use Rattle.rules.specs.Words.{Joins, Apart, longer, with_word, with_line, word_joins, word_opens, word_wide, word_full, word_none}
+use Rattle.rules.specs.Words.{Apart, longer, with_word, with_line, word_joins, word_opens, word_wide, word_full, word_none}
 use Rattle.rules.proofs.Single.{same_some}
 use Rattle.sheet.specs.View.{View, Boxed, Held, FitList, Rest, start_of}
 use Rattle.sheet.specs.Told.{Worded, WordTold}

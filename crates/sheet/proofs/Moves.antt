@@ -1,11 +1,11 @@
 -- One call more, as one step more of the account. Assumes nothing.
-use Rattle.std.proofs.Common.{◌≡◌, ℕ, ◌+◌, ◌-◌, ◌<◌, ◌≤◌, Bool, leb, List, [], ◌∷◌, ◌++◌, reverse, length, take, drop, set, is_some, Option, sym, refl, ap, ◌∙◌, arith, drop-drop}
+use Rattle.std.proofs.Common.{◌≡◌, ℕ, ◌+◌, ◌-◌, ◌<◌, ◌≤◌, Bool, leb, List, [], ◌∷◌, ◌++◌, length, drop, set, is_some, sym, refl, ap, ◌∙◌, arith, drop-drop}
 use mathlib.Core.List.{reverse-cons}
 use mathlib.Core.Logic.{∥∥₁_map}
 use Rattle.std.proofs.lemmas.List.{take_more_set}
 use Rattle.rules.specs.declared.boxes.BoxRecord.{BoxRecord}
 use Rattle.rules.specs.Account.{Size, Account, reserved, full}
-use Rattle.rules.specs.Runs.{Call, Answer, Event, event, Step, Run, next}
+use Rattle.rules.specs.Runs.{Call, Answer, Event, event, Step, next}
 use Rattle.sheet.specs.View.{View, Boxed, Held, Kept, Reached, Rest}
 use Rattle.sheet.specs.Told.{Told}
 

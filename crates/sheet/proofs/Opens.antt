@@ -1,5 +1,5 @@
 -- Opening a paragraph. Assumes nothing.
-use Rattle.std.proofs.Common.{◌≡◌, ℕ, ◌+◌, ◌<◌, ◌≤◌, max, Bool, true, false, not, ◌&&◌, ltb, leb, ◌∷◌, is_some, Some, sym, refl, ap, ◌∙◌, subst, ap₂, arith, le-leb}
+use Rattle.std.proofs.Common.{◌≡◌, ℕ, ◌+◌, ◌<◌, ◌≤◌, max, Bool, true, false, ◌&&◌, ltb, leb, ◌∷◌, is_some, Some, sym, ap, ◌∙◌, subst, ap₂, arith, le-leb}
 use borrow.Author.Tests.{lt-leb}
 use Rattle.shapes.specs.declared.sides.Clear.{Clear}
 use Rattle.places.specs.declared.parts.Span.{Span}

@@ -1,12 +1,11 @@
 -- A panel call. Assumes nothing.
-use Rattle.std.proofs.Common.{◌≡◌, ℕ, ◌+◌, ◌<◌, ◌≤◌, max, true, false, ltb, leb, List, ◌∷◌, length, set, Some, None, Option, sym, refl, ap, ◌∙◌, subst, ap₂, arith, length-set, le-ltb, lt-ltb, leb-false}
-use Rattle.shapes.specs.declared.sides.Clear.{Clear}
+use Rattle.std.proofs.Common.{◌≡◌, ℕ, ◌+◌, ◌<◌, ◌≤◌, max, true, false, ltb, leb, List, ◌∷◌, length, set, Some, None, Option, sym, refl, ap, ◌∙◌, subst, arith, length-set, le-ltb, lt-ltb, leb-false}
 use Rattle.shapes.specs.Form.{Real}
 use Rattle.places.specs.declared.parts.Place.{Place}
-use Rattle.places.specs.Panels.{Placed, bottom}
+use Rattle.places.specs.Panels.{Placed}
 use Rattle.places.specs.Bands.{room}
-use Rattle.places.specs.Permitted.{Rows as Sizes, Scene, Wanted, put, Permitted, Best}
-use Rattle.places.specs.Tried.{first_row, tops, panel_tops, greatest, bottoms}
+use Rattle.places.specs.Permitted.{Scene, Wanted, put, Permitted}
+use Rattle.places.specs.Tried.{first_row, panel_tops, greatest, bottoms}
 use Rattle.places.specs.Theorems.{Found}
 use Rattle.places.proofs.Firsts.{tops_from, permitted_row}
 use Rattle.rows.specs.declared.Rows.{Rows}

@@ -1,4 +1,5 @@
 // The sheet: paragraphs, panels and lines over lent memory, each call bearing the law over all calls before it.
+#![tactic(auto)]
 
 // What flow answers, and what a sheet leaves.
 pub mod answers;

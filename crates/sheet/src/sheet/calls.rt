@@ -75,7 +75,7 @@ impl<'a> Sheet<'a> {
         ensures rows { OnOk result (Stays self.old.store.rows self.new.store.rows) }
         ensures para { self.new.store.para ≡ self.old.store.para }
         ensures ever { Ever self.new }
-        ensures account { Tells (panels (wanted order.side order.clear (model order.shape))) (panel_answer result) self.old self.new }
+        ensures account { Tells (panels (wanted order.side order.clear (S.model order.shape))) (panel_answer result) self.old self.new }
     {
         self.store.panel(order)
     }

@@ -23,7 +23,7 @@ impl<'a> Store<'a> {
         ensures rest { Rest (view self.old) (view self.new) }
         ensures rows { OnOk result (Stays self.old.rows self.new.rows) }
         ensures para { self.new.para ≡ self.old.para }
-        ensures account { Told (panels (wanted order.side order.clear (model order.shape))) (panel_answer result) (view self.old) (view self.new) }
+        ensures account { Told (panels (wanted order.side order.clear (S.model order.shape))) (panel_answer result) (view self.old) (view self.new) }
     {
         let Some(para) = self.para else {
             return Err(Refusal::NoParagraph);

@@ -2,8 +2,8 @@ use Rattle.sheet.specs.Stores.{view}
 use Rattle.sheet.proofs.Parts.{parts, ever, lawful}
 use Rattle.sheet.proofs.sheet.Sheet.panel.Goals as goal
 
-pub invariant-of-self : goal.invariant-of-self
-invariant-of-self g c = parts _ _ (view c.args.self.now.store) (view c.panel.new.self) c.args.self.now.reached c.panel.ensures.fit c.panel.ensures.account
+pub invariant_of-self : goal.invariant_of-self
+invariant_of-self g c = parts _ _ (view c.args.self.now.store) (view c.panel.new.self) c.args.self.now.reached c.panel.ensures.fit c.panel.ensures.account
 
 pub returns : goal.returns
 returns g c = record {

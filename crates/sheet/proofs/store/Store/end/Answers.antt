@@ -1,4 +1,4 @@
-use Rattle.std.proofs.Common.{sym, refl, arith}
+use Rattle.std.proofs.Common.{refl, arith}
 use Rattle.sheet.specs.Stores.{view}
 use Rattle.sheet.proofs.Ends.{end_none, end_other, end_own, no_number, one_number}
 use Rattle.sheet.proofs.Lines.{left, rest_shut}

@@ -1,4 +1,4 @@
-use Rattle.std.proofs.Common.{◌≡◌, ℕ, ◌+◌, ◌≤◌, Ok, Err, sym, refl, ap, ◌∙◌, subst, arith}
+use Rattle.std.proofs.Common.{◌≡◌, ℕ, ◌+◌, Ok, Err, sym, refl, ◌∙◌, subst, arith}
 use Rattle.sheet.specs.Told.{WordTold}
 use Rattle.sheet.specs.Stores.{view, advances_in}
 use Rattle.sheet.proofs.Moves.{rest_none, rest_then}
@@ -6,14 +6,14 @@ use Rattle.sheet.proofs.Flows.{flow_closed, flow_none, flow_then, flow_one, flow
 use Rattle.sheet.proofs.Stretches.{word_at, no_word_at, past_all}
 use Rattle.sheet.proofs.store.Store.flow.Goals as goal
 
-pub returns-in-default : goal.returns-in-default
-returns-in-default c = record { fit = c.requires; named = refl; same = λ _ _. refl; rest = rest_none (view c.args.self.now); rows = refl; para = refl; account = flow_closed (view c.args.self.now) _ _ _ c.in-default.is }
+pub returns-in_default : goal.returns-in_default
+returns-in_default c = record { fit = c.requires; named = refl; same = λ _ _. refl; rest = rest_none (view c.args.self.now); rows = refl; para = refl; account = flow_closed (view c.args.self.now) _ _ _ c.in_default.is }
 
 pub loop-i-init : goal.loop-i-init
 loop-i-init c = (omega arith, c.requires, refl, c.in-Some.is, refl, rest_none (view c.args.self.now), (λ _. refl), flow_none (view c.args.self.now) c.in-Some.para _ _ c.args.from)
 
 pub unreachable-requires : goal.unreachable-requires
-unreachable-requires c = omega (arith, no_word_at c.args.text.now c.loop-i.i c.in-default-word.ensures.answer, c.count-count.ensures)
+unreachable-requires c = omega (arith, no_word_at c.args.text.now c.loop-i.i c.in_default-word.ensures.answer, c.count-count.ensures)
 
 pub loop-i-preserved : goal.loop-i-preserved
 loop-i-preserved c =
