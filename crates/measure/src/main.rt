@@ -1,5 +1,7 @@
 // Measures the texts of standard input. It prints a line for each text and the total, or the first fault alone; with a fault,
 // too, it ends well.
+#![tactic(auto)]
+
 use std::io;
 use std::io::Read;
 use text_report::reports::report;

@@ -1,6 +1,6 @@
 -- Taking a panel in, row by row. Assumes nothing.
 use Rattle.std.proofs.Common.{◌≡◌, ℕ, ◌+◌, ◌-◌, ◌*◌, ◌<◌, ◌≤◌, Bool, true, false, cond, ltb, leb, ◌≢◌, List, ◌∷◌, length, get_or, drop, set, sym, refl, ap, ◌∙◌, subst, ap₂, ⊎_elim, arith, length-set, get_or-set_other, get_or-set_same}
-use Rattle.std.proofs.lemmas.Bool.{lt-leb, le-ltb, cond-false, cases_lt, cases_eq}
+use Rattle.std.proofs.lemmas.Bool.{le-ltb, cond-false, cases_lt, cases_eq}
 use Rattle.shapes.specs.declared.sides.Side.{Side}
 use Rattle.shapes.specs.declared.sides.Side.TheVariants.{Left, Right}
 use Rattle.shapes.specs.Form.{Real}
@@ -28,11 +28,6 @@ nowhere W Right x w = refl
 reach_by : (W : ℕ) (q : Placed) (i b a : ℕ) → box_on q i ≡ b → area_on q i ≡ a → reach_of W q i ≡ reach_at W q.side q.x q.form.wide b a
 reach_by W q i b a p r = ap₂ (reach_at W q.side q.x q.form.wide) p r
 
-above : (W : ℕ) (q : Placed) (i : ℕ) → i < q.y → reach_of W q i ≡ no_reach
-above W q i h =
-    let t = lt-leb q.y i h in
-    reach_by W q i 0 0 (cond-false (leb q.y i) _ 0 t) (cond-false (leb q.y i) _ 0 t) ∙ nowhere W q.side q.x q.form.wide
-
 neither : (a b : Bool) (w : ℕ) → b ≡ false → cond a (cond b w 0) 0 ≡ 0
 neither true b w e = cond-false b w 0 e
 neither false b w e = refl
@@ -59,13 +54,6 @@ row_taken W V w e q k r small is_W is_w is_e is =
     ∙ ap (λ v. reach_at v q.side q.x w w e) is_W
     ∙ ap₂ (λ w e. reach_at W q.side q.x w w e) is_w is_e
     ∙ sym (on_row W q k small)
-
-pub grown_none : (W : ℕ) (q : Placed) (old : List Reach) → Grown W q 0 old old
-grown_none W q old = record {
-  long = refl;
-  done = λ i lt. sym (ap (λ r. farther r (get_or old i no_reach)) (above W q i (omega arith)) ∙ reach_laws.left_neutral (get_or old i no_reach));
-  rest = λ i le. refl;
-}
 
 pub grown_more : (W : ℕ) (q : Placed) (k : ℕ) (old new new' : List Reach) (r : Reach) → q.y + k < length new → Grown W q k old new → r ≡ reach_of W q (q.y + k)
     → new' ≡ set new (q.y + k) (farther r (get_or new (q.y + k) no_reach)) → Grown W q (k + 1) old new'
