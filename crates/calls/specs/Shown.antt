@@ -8,7 +8,6 @@ use Rattle.std.specs.Prelude.{ℕ, List, [], ◌∷◌, ◌++◌, Some, None, co
 use Rattle.lexer.specs.Bytes.{space, line_end}
 use Rattle.shapes.specs.declared.sides.Side.{Side}
 use Rattle.shapes.specs.declared.sides.Side.TheVariants as S
-use Rattle.rules.specs.declared.boxes.BoxRecord.{BoxRecord}
 use Rattle.rules.specs.declared.boxes.BoxRecord.TheVariants as B
 use Rattle.rules.specs.declared.boxes.LineBox.{LineBox}
 use Rattle.rules.specs.declared.refusals.Refusal.{Refusal}

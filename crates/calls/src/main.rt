@@ -1,4 +1,6 @@
 // Plays a script of calls on a sheet, from standard input: each line is answered by one line, a refused call by its cause.
+#![tactic(auto)]
+
 use crate::playing::play;
 use std::io;
 use std::io::Read;

@@ -110,7 +110,7 @@ fn place<S: Shape + Drop>(
     clear: Clear,
 ) -> Reply
     ensures number { open_number sheet.new ≡ open_number sheet.old }
-    ensures told { Places side clear (answered model shape) result sheet.old sheet.new }
+    ensures told { Places side clear (answered S.model shape) result sheet.old sheet.new }
 {
     let Ok(shape) = shape else {
         return Reply::Refused(Refusal::NoShape);
@@ -148,7 +148,7 @@ fn flow<M: Metrics>(
     runs: &mut [Run],
 ) -> Reply
     ensures number { open_number sheet.new ≡ open_number sheet.old }
-    ensures told { Flows (text_fault passage.entry.bytes.now (length words.old) (length runs.old)) (advances_of (advances metrics.now) passage.entry.bytes.now) ((advances metrics.now) space_byte) passage.entry.from result sheet.old sheet.new }
+    ensures told { Flows (text_fault passage.entry.bytes.now (length words.old) (length runs.old)) (advances_of (M.advances metrics.now) passage.entry.bytes.now) ((M.advances metrics.now) space_byte) passage.entry.from result sheet.old sheet.new }
 {
     if let Some(fault) = fault(passage.bytes, words, runs) {
         return Reply::Unmeasured(fault);

@@ -1,4 +1,4 @@
-use Rattle.std.proofs.Common.{◌≡◌, ℕ, length, None, sym, ap, ◌∙◌, subst}
+use Rattle.std.proofs.Common.{◌≡◌, ℕ, length, None, ap, subst}
 use Rattle.rules.specs.Runs.{flows}
 use Rattle.sheet.specs.Stores.{advances_in, flow_answer}
 use Rattle.sheet.specs.Sheets.{Tells}

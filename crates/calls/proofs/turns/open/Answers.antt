@@ -1,4 +1,4 @@
-use Rattle.std.proofs.Common.{◌≡◌, Option, sym, ap, ◌∙◌, subst}
+use Rattle.std.proofs.Common.{Option, subst}
 use Rattle.sheet.specs.declared.slips.Slip.{Slip}
 use Rattle.sheet.specs.Sheets.{fields}
 use Rattle.calls.specs.Hands.{InHand}
