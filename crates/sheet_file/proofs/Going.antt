@@ -1,5 +1,5 @@
 -- One line after another, up to the first fault. Assumes nothing.
-use Rattle.std.proofs.Common.{◌≡◌, ℕ, suc, ◌+◌, ◌-◌, ◌<◌, ◌≤◌, List, [], ◌∷◌, drop, IfOk, Some, Ok, Err, Option, Result, sym, refl, ap, ◌∙◌, subst, arith, drop-drop}
+use Rattle.std.proofs.Common.{◌≡◌, ℕ, suc, ◌+◌, ◌-◌, ◌<◌, ◌≤◌, List, [], ◌∷◌, drop, Some, Ok, Err, Option, Result, sym, ap, ◌∙◌, subst, arith, drop-drop}
 use Rattle.lexer.specs.Lines.{FileLine}
 use Rattle.sheet.specs.declared.sheet.Sheet.{Sheet}
 use Rattle.items.specs.declared.faults.Located.{Located}
@@ -34,9 +34,6 @@ module _ {X : Type 0} (D : Doing X) (plan : ℕ → ℕ → List FileLine → X)
   abbrev plan_at : ℕ → Cursor → X
   plan_at k c = plan k (number c) (ahead c)
 
-  pub turns_none : (count : ℕ) (c : Cursor) (s : Sheet) → Goes (Leading D (plan count (number c) (ahead c)) (plan (count - 0) (number c) (ahead c))) s s
-  turns_none count c s = subst (λ (k : ℕ). Goes (Leading D (plan_at count c) (plan_at k c)) s s) (omega arith) (λ z past p. (past, p, λ fs o d. d))
-
   module _ (I : X) (count i : ℕ) (c d : Cursor) (s t u : Sheet) (before : Goes (Leading D I (plan (count - i) (number c) (ahead c))) s t) where
     here : i < count → Goes (Leading D I (plan (suc (count - (i + 1))) (number c) (ahead c))) s t
     here lt = subst (λ (k : ℕ). Goes (Leading D I (plan_at k c)) s t) (omega arith) before
@@ -56,9 +53,6 @@ module _ {X : Type 0} (D : Doing X) (plan : ℕ → ℕ → List FileLine → X)
         let from : Goes (Leading D I (plan_at 0 c)) s t = subst (λ (k : ℕ). Goes (Leading D I (plan_at k c)) s t) (omega arith) before in
         leads_to D I (plan_at 0 c) o s t u from h
 
-pub forward_none : (s : Cursor) → Forward 0 s s
-forward_none s = (refl, omega arith)
-
 pub forward_then : (j k : ℕ) (s t u : Cursor) → Forward j s t → Forward k t u → Forward (j + k) s u
 forward_then j k s t u a b = (b.0 ∙ ap (drop k) a.0 ∙ drop-drop k j _, omega (arith, a.1, b.1))
 
@@ -77,7 +71,3 @@ first_rest n f (l ∷ ls) a rest h = behind_it n (f l) a ls rest h
 
 pub forward_one : {A : Type 0} (f : FileLine → Result A FileFault) (s t : Cursor) (a : A) → first_line (number s) f (ahead s) ≡ Ok (a, ahead t) → number t ≡ number s + 1 → Forward 1 s t
 forward_one f s t a h on = (first_rest (number s) f (ahead s) a (ahead t) h, on)
-
--- where a result is a fault, what is said of its value asks for nothing
-pub but_faults : {A B : Type 0} (P : A → Type 0) (r : Result A B) (e : B) → r ≡ Err e → IfOk r P
-but_faults P r e is = subst (λ x. IfOk x P) (sym is) tt

@@ -1,5 +1,5 @@
 -- A whole file, from its lines to its boxes. Assumes nothing.
-use Rattle.std.proofs.Common.{◌≡◌, ℕ, ◌<◌, ◌≤◌, cond, List, [], ◌∷◌, length, drop, Ok, Err, Option, Result, sym, refl, ap, ◌∙◌, subst₂, arith, le-ltb, lt-ltb}
+use Rattle.std.proofs.Common.{◌≡◌, ℕ, ◌≤◌, cond, List, [], ◌∷◌, length, Ok, Err, Option, Result, refl, ap, ◌∙◌, subst₂, arith, le-ltb}
 use Rattle.lexer.specs.Lines.{FileLine, file_lines}
 use Rattle.lines.specs.declared.headings.SheetLine.{SheetLine}
 use Rattle.sheet.specs.Fresh.{new_size}
@@ -7,7 +7,6 @@ use Rattle.items.specs.declared.faults.FileFault.{FileFault}
 use Rattle.items.specs.declared.faults.FileFault.TheVariants.{Extent, Long}
 use Rattle.items.specs.Faults.{at_line}
 use Rattle.items.specs.Onward.{onward}
-use Rattle.std.proofs.lemmas.List.{length-take-le}
 use Rattle.rules.specs.declared.boxes.BoxRecord.{BoxRecord}
 use Rattle.rules.specs.Runs.{Event}
 use Rattle.rules.proofs.Right.{right}
@@ -32,14 +31,6 @@ laid_by P past s bs o done told is = record {
 pub laid_from : (P : Plan) (s t : Sheet) (bs : List BoxRecord) (o : Option Located) → Past P.size [] s → Goes (λ es fs. ParasDone P.body es fs o) s t → bs ≡ boxes_in t → Laid P bs o
 laid_from P s t bs o fresh goes is = let x = goes P.size [] fresh in laid_by P x.0 t bs o x.2 x.1 is
 
--- the records that are handed back as not used are those of the list that was lent
-pub spare_is : (s : Sheet) (bs spare list : List BoxRecord) → bs ≡ boxes_in s → spare ≡ drop s.store.used s.store.list.now → drop s.store.used s.store.list.now ≡ drop s.store.used list → spare ≡ drop (length bs) list
-spare_is s bs spare list are is keeps =
-    let fits = s.list in
-    let few : s.store.used ≤ length s.store.list.now = omega arith in
-    let many : length bs ≡ s.store.used = ap length are ∙ length-take-le s.store.used s.store.list.now few in
-    is ∙ keeps ∙ ap (λ (n : ℕ). drop n list) (sym many)
-
 pub fault_part : (r : Result (Unit {0}) Located) → result_err r ≡ fault_in r
 fault_part (Ok u) = refl
 fault_part (Err x) = refl
@@ -47,9 +38,6 @@ fault_part (Err x) = refl
 -- What the plan of a file comes to
 
 module _ (file : List ℕ) (cells records runs places : ℕ) where
-  pub plan_long : longest_file < length file → file_plan file cells records runs places ≡ stopped (no_size cells places) (at_line 0 Long)
-  plan_long lt = ap (λ b. cond b (stopped (no_size cells places) (at_line 0 Long)) (lines_plan (file_lines file) cells records runs places)) (lt-ltb longest_file (length file) lt)
-
   short : length file ≤ longest_file → file_plan file cells records runs places ≡ lines_plan (file_lines file) cells records runs places
   short le = ap (λ b. cond b (stopped (no_size cells places) (at_line 0 Long)) (lines_plan (file_lines file) cells records runs places)) (le-ltb longest_file (length file) le)
 

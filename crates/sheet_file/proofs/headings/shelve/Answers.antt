@@ -1,4 +1,4 @@
-use Rattle.std.proofs.Common.{◌≡◌, ℕ, ◌-◌, [], length, Err, Result, sym, ap, ◌∙◌, subst, arith}
+use Rattle.std.proofs.Common.{◌≡◌, ℕ, [], Err, Result, sym, ap, ◌∙◌, subst, arith}
 use Rattle.std.proofs.lemmas.Result.{err_from_is_err_and}
 use Rattle.shapes.specs.Models.{stairs_model}
 use Rattle.items.specs.declared.faults.Located.{Located}
@@ -8,16 +8,9 @@ use Rattle.sheet_file.specs.Bodies.{ShelfTold}
 use Rattle.sheet_file.specs.Cursors.{ahead, number}
 use Rattle.sheet_file.specs.Plans.{stairs_of, shapes_plan}
 use Rattle.sheet_file.specs.Turns.{Forward}
-use Rattle.sheet_file.proofs.Going.{forward_none, forward_then, forward_one}
+use Rattle.sheet_file.proofs.Going.{forward_then, forward_one}
 use Rattle.sheet_file.proofs.ShapeByShape.{shapes_more, shapes_stop, shapes_all, length_kept}
 use Rattle.sheet_file.proofs.headings.shelve.Goals as goal
-
-pub loop-done-init : goal.loop-done-init
-loop-done-init c =
-    let n = number c.args.cursor.now in
-    let ls = ahead c.args.cursor.now in
-    let none = c.new-shelf.ensures in
-    (forward_none c.args.cursor.now, ap length none, ap (λ (k : ℕ). shapes_plan k n ls []) (omega arith) ∙ ap (shapes_plan (c.args.count - 0) n ls) (sym none))
 
 pub returns-in_err-stairs : goal.returns-in_err-stairs
 returns-in_err-stairs c =

@@ -1,7 +1,6 @@
 use Rattle.std.proofs.Common.{◌≡◌, length, Err, Result, sym, ap, ◌∙◌, subst}
 use Rattle.std.proofs.lemmas.Result.{err_from_is_err_and}
 use Rattle.items.specs.declared.faults.Located.{Located}
-use Rattle.items.proofs.Sparing.{spares_none}
 use Rattle.sheet_file.specs.Desks.{setting}
 use Rattle.sheet_file.specs.Done.{ParasDone}
 use Rattle.sheet_file.specs.Plans.{paras_plan}
@@ -9,8 +8,8 @@ use Rattle.sheet_file.specs.Turns.{Turned}
 use Rattle.sheet_file.proofs.ParaByPara.{para_filled, para_unread}
 use Rattle.sheet_file.proofs.paragraphs.next_paragraph.Goals as goal
 
-pub returns-in_err-head : goal.returns-in_err-head
-returns-in_err-head c =
+pub returns-in_err-head-clause-told : goal.returns-in_err-head-clause-told
+returns-in_err-head-clause-told c =
     let S = setting c.args.desk.now (length c.args.words.now) (length c.args.runs.now) in
     let s = c.args.sheet.now in
     let from = c.args.cursor.now in
@@ -18,16 +17,10 @@ returns-in_err-head c =
     let x = c.in_err-head.field-0.0 in
     let p = err_from_is_err_and c.from_residual.result c.from_residual.ensures.1 in
     let is : c.from_residual.result ≡ Err x = p.1 ∙ ap Err p.2 in
-    record {
-      spares = spares_none s;
-      told = subst (λ (r : Result (Unit {0}) Located). Turned ParasDone (paras_plan S) from r to s s) (sym is) (para_unread S from to s x c.in_err-head.ensures);
-    }
+    subst (λ (r : Result (Unit {0}) Located). Turned ParasDone (paras_plan S) from r to s s) (sym is) (para_unread S from to s x c.in_err-head.ensures)
 
-pub returns : goal.returns
-returns c =
+pub returns-clause-told : goal.returns-clause-told
+returns-clause-told c =
     let S = setting c.args.desk.now (length c.args.words.now) (length c.args.runs.now) in
     let h = c.in_ok-head.ensures in
-    record {
-      spares = c.fill.ensures.spares;
-      told = para_filled S c.args.cursor.now c.next_heading.new.cursor c.fill.new.cursor c.in_ok-head.head c.args.sheet.now c.fill.new.sheet h.0 h.1 c.fill.result c.fill.ensures.forward c.fill.ensures.told;
-    }
+    para_filled S c.args.cursor.now c.next_heading.new.cursor c.fill.new.cursor c.in_ok-head.head c.args.sheet.now c.fill.new.sheet h.0 h.1 c.fill.result c.fill.ensures.forward c.fill.ensures.told

@@ -1,23 +1,22 @@
 use Rattle.std.proofs.Common.{◌≡◌, ℕ, length, Ok, Err, Result, sym, ap, ◌∙◌, subst, subst₂}
 use Rattle.std.proofs.lemmas.Result.{err_from_is_err_and}
 use Rattle.items.specs.declared.faults.Located.{Located}
-use Rattle.items.proofs.Sparing.{spares_none, spares_then}
+use Rattle.items.proofs.Sparing.{spares_then}
 use Rattle.sheet_file.specs.Cursors.{ahead, number}
 use Rattle.sheet_file.specs.Desks.{setting}
 use Rattle.sheet_file.specs.Done.{fault_in, ParasDone, Goes}
 use Rattle.sheet_file.specs.Plans.{paras_plan}
 use Rattle.sheet_file.specs.Turns.{Turned}
-use Rattle.sheet_file.proofs.Going.{turns_none, turns_more, turns_stop, turns_all}
+use Rattle.sheet_file.proofs.Going.{turns_more, turns_stop, turns_all}
 use Rattle.sheet_file.proofs.ParaByPara.{paras_set}
 use Rattle.sheet_file.proofs.paragraphs.set_paragraphs.Goals as goal
 
-pub loop-set-init : goal.loop-set-init
-loop-set-init c =
-    let S = setting c.args.desk.now (length c.args.words.now) (length c.args.runs.now) in
-    (spares_none c.args.sheet.now, turns_none ParasDone (paras_plan S) c.args.count c.args.cursor.now c.args.sheet.now)
+pub returns-in_err-next_paragraph-clause-spares : goal.returns-in_err-next_paragraph-clause-spares
+returns-in_err-next_paragraph-clause-spares c =
+    spares_then c.args.sheet.now c.loop-set.sheet c.next_paragraph.new.sheet c.loop-set.invariant.0 c.next_paragraph.ensures.spares
 
-pub returns-in_err-next_paragraph : goal.returns-in_err-next_paragraph
-returns-in_err-next_paragraph c =
+pub returns-in_err-next_paragraph-clause-told : goal.returns-in_err-next_paragraph-clause-told
+returns-in_err-next_paragraph-clause-told c =
     let S = setting c.args.desk.now (length c.args.words.now) (length c.args.runs.now) in
     let s = c.args.sheet.now in
     let t = c.loop-set.sheet in
@@ -29,10 +28,7 @@ returns-in_err-next_paragraph c =
     let p = err_from_is_err_and c.from_residual.result c.from_residual.ensures.1 in
     let is : c.from_residual.result ≡ Err x = p.1 ∙ ap Err p.2 in
     let told : Turned ParasDone (paras_plan S) from (Err x) to t u = subst₂ (λ (j k : ℕ). Turned ParasDone (paras_plan (setting c.args.desk.now j k)) from (Err x) to t u) c.loop-set.auto.words c.loop-set.auto.runs c.in_err-next_paragraph.ensures.told in
-    record {
-      spares = spares_then s t u c.loop-set.invariant.0 c.next_paragraph.ensures.spares;
-      told = subst (λ (r : Result (Unit {0}) Located). Goes (λ es fs. ParasDone I es fs (fault_in r)) s u) (sym is) (turns_stop ParasDone (paras_plan S) I c.args.count c.loop-set.set from to s t u c.loop-set.invariant.1 x c.loop-set-test.true told);
-    }
+    subst (λ (r : Result (Unit {0}) Located). Goes (λ es fs. ParasDone I es fs (fault_in r)) s u) (sym is) (turns_stop ParasDone (paras_plan S) I c.args.count c.loop-set.set from to s t u c.loop-set.invariant.1 x c.loop-set-test.true told)
 
 pub loop-set-preserved : goal.loop-set-preserved
 loop-set-preserved c =
@@ -48,13 +44,10 @@ loop-set-preserved c =
       turns_more ParasDone (paras_plan S) I c.args.count c.loop-set.set from to s t u c.loop-set.invariant.1 tt c.loop-set-test.true told,
     )
 
-pub returns : goal.returns
-returns c =
+pub returns-clause-told : goal.returns-clause-told
+returns-clause-told c =
     let S = setting c.args.desk.now (length c.args.words.now) (length c.args.runs.now) in
     let I = paras_plan S c.args.count (number c.args.cursor.now) (ahead c.args.cursor.now) in
     let from = c.loop-set.cursor in
     let t = c.loop-set.sheet in
-    record {
-      spares = c.loop-set.invariant.0;
-      told = turns_all ParasDone (paras_plan S) I c.args.count c.loop-set.set from from c.args.sheet.now t t c.loop-set.invariant.1 (fault_in c.end.result) c.loop-set-test.false (paras_set S (number from) (ahead from) t (fault_in c.end.result) c.end.ensures);
-    }
+    turns_all ParasDone (paras_plan S) I c.args.count c.loop-set.set from from c.args.sheet.now t t c.loop-set.invariant.1 (fault_in c.end.result) c.loop-set-test.false (paras_set S (number from) (ahead from) t (fault_in c.end.result) c.end.ensures)
