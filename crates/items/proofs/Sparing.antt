@@ -1,9 +1,8 @@
 -- Memory that is not in use, over one call after another. Assumes nothing.
-use Rattle.std.proofs.Common.{◌≡◌, ℕ, ◌*◌, drop, sym, refl, ap, ◌∙◌, subst}
+use Rattle.std.proofs.Common.{◌≡◌, ℕ, ◌*◌, drop, sym, refl, ◌∙◌, subst}
 use Rattle.rows.specs.Fit.{Stays}
 use Rattle.rows.specs.declared.Rows.{Rows}
 use Rattle.sheet.specs.declared.sheet.Sheet.{Sheet}
-use Rattle.sheet.specs.View.{View}
 use Rattle.sheet.specs.Sheets.{fields}
 use Rattle.sheet.proofs.Moves.{rest_none, rest_then}
 use Rattle.items.specs.Spares.{Spares}
@@ -13,9 +12,6 @@ stays_none s = record { width = refl; height = refl; tree = record { count = ref
 
 pub stays_is : (s t : Rows) → t ≡ s → Stays s t
 stays_is s t is = subst (Stays s) (sym is) (stays_none s)
-
-pub stays_same : (v w : View) → w ≡ v → Stays v.rows w.rows
-stays_same v w is = stays_is v.rows w.rows (ap (λ (x : View). x.rows) is)
 
 pub stays_then : (s t u : Rows) → Stays s t → Stays t u → Stays s u
 stays_then s t u a b = record {

@@ -1,4 +1,5 @@
 // One item of a paragraph of a sheet file: the call on the sheet that its line asks for, and why a file is refused.
+#![tactic(auto)]
 
 // Why a sheet file is refused.
 pub mod faults;

@@ -27,7 +27,7 @@ fn place<S: Shape + Drop>(
 ) -> Result<(), SheetFault>
     ensures number { open_number sheet.new ≡ open_number sheet.old }
     ensures spares { Spares sheet.old sheet.new }
-    ensures asked { Asked (panel_call side clear (answered model shape)) (raised result) sheet.old sheet.new }
+    ensures asked { Asked (panel_call side clear (answered S.model shape)) (raised result) sheet.old sheet.new }
 {
     let shape = shape?;
     sheet.panel(Order { shape, side, clear })?;

@@ -28,7 +28,7 @@ pub fn set_item<M: Metrics>(
 ) -> Result<(), FileFault>
     ensures number { open_number sheet.new ≡ open_number sheet.old }
     ensures spares { Spares sheet.old sheet.new }
-    ensures asked { Asked (item_call (advances metrics.now) (kept shelf.now) (length words.old) (length runs.old) (line_of line.entry)) result sheet.old sheet.new }
+    ensures asked { Asked (item_call (M.advances metrics.now) (kept shelf.now) (length words.old) (length runs.old) (line_of line.entry)) result sheet.old sheet.new }
 {
     let item = item_line(line, shelf.count())?;
     match item {

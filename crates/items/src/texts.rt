@@ -46,7 +46,7 @@ pub(crate) fn flow<M: Metrics>(
 ) -> Result<(), FileFault>
     ensures number { open_number sheet.new ≡ open_number sheet.old }
     ensures spares { Spares sheet.old sheet.new }
-    ensures asked { Asked (text_call (advances metrics.now) (length words.old) (length runs.old) text.now) result sheet.old sheet.new }
+    ensures asked { Asked (text_call (M.advances metrics.now) (length words.old) (length runs.old) text.now) result sheet.old sheet.new }
 {
     accept(text, words, runs)?;
     let measured = measure(metrics, text, words, runs);

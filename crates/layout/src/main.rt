@@ -1,4 +1,6 @@
 // Lays out a sheet file from standard input, and prints its boxes, or its first fault.
+#![tactic(auto)]
+
 use sheet_report::reports::report;
 use std::io;
 use std::io::{Read, Write};

@@ -3,7 +3,7 @@
 --     file_lines f   the lines of the file f
 --     written ls     the file that has the lines ls
 --     Lined ls       no line holds a line end; all are ended but perhaps the last, and an unended one is not empty
---     LinesStand    file_lines f is the one list that is Lined and is written f
+--     LinesStand     file_lines f is the one list that is Lined and is written f
 use Rattle.std.specs.Prelude.{◌≡◌, ℕ, ◌<◌, Bool, true, false, cond, List, [], ◌∷◌, ◌++◌, length, ◌==◌, ◌≢◌}
 use Rattle.std.specs.List.{AllByRecursion}
 use Rattle.lexer.specs.Bytes.{line_end}

@@ -2,7 +2,7 @@
 --     digit b         the byte b is a decimal digit
 --     reads n bs      the number that the digits bs write after those of n, if all are digits
 --     numeral bs      the number that the field bs writes: 1 to 5 digits without a leading zero, at most 65,535
---     NumeralsStand  a number's field is exactly what is printed of a number up to 65,535
+--     NumeralsStand   a number's field is exactly what is printed of a number up to 65,535
 use Rattle.std.specs.Prelude.{◌≡◌, ℕ, ◌+◌, ◌-◌, ◌*◌, ◌≤◌, Bool, cond, ◌&&◌, List, [], ◌∷◌, length, Some, None, decimal, Option, ◌==◌, nat_le, nat_lt, slice_index}
 
 abbrev pub most_digits : ℕ

@@ -98,7 +98,7 @@ fn texts_and_steps_are_taken(rt: HostRuntime) -> Result<(), Fail> {
     let Ok(Item::Text(rest)) = item_line(ended(b"text  a"), 0) else {
         return Err(Fail::new("a text"));
     };
-    assert!(rt; rest == b" a", "all bytes behind the space");
+    assert!(rt; rest == b" a".as_slice(), "all bytes behind the space");
     let Ok(flight) = steps_line(ended(b"steps 2 9 1 2 3 4")) else {
         return Err(Fail::new("a flight"));
     };

@@ -1,10 +1,9 @@
 -- Ending a paragraph. Assumes nothing.
-use Rattle.std.proofs.Common.{◌≡◌, ℕ, true, false, eqb, Some, None, Option, sym, refl, ap, ◌∙◌, eq-eqb, ne_eqb}
+use Rattle.std.proofs.Common.{◌≡◌, ℕ, true, false, eqb, Some, None, sym, refl, ◌∙◌, eq-eqb, ne_eqb}
 use Rattle.rules.specs.declared.paragraphs.Paragraph.{Paragraph}
 use Rattle.rules.specs.declared.refusals.Refusal.TheVariants.{NoParagraph, WrongSlip}
 use Rattle.rules.specs.Runs.{ends, ended, refused, end_refused, end_done}
-use Rattle.rules.proofs.Single.{same_some, some_none}
-use Rattle.sheet.specs.View.{View, FitList, number_in}
+use Rattle.sheet.specs.View.{View, FitList}
 use Rattle.sheet.specs.Told.{Told}
 use Rattle.sheet.specs.Steps.{Closed}
 use Rattle.sheet.proofs.Moves.{move, stay}
@@ -53,10 +52,3 @@ end_own v w n p few c t i z past k =
       para_is = refl;
       current_is = h.current_is;
     })
-
--- the open paragraph's number
-pub no_number : {o : Option Paragraph} {n : ℕ} → o ≡ None → number_in o ≡ Some n → ⊥
-no_number e h = some_none h (ap number_in e)
-
-pub one_number : {o : Option Paragraph} {p : Paragraph} {n : ℕ} → o ≡ Some p → number_in o ≡ Some n → p.number ≡ n
-one_number e h = same_some (ap number_in e) h

@@ -23,9 +23,6 @@ flow_closed v ws sp from t z past k =
     let p : k.account.para ≡ None = sym k.held.para_is ∙ t in
     stay k (flow_refused (simp p))
 
-pub flow_none : (v : View) (p : Paragraph) (sp : ℕ) (ws : List ℕ) (i : ℕ) → Flowing p sp ws i i v v
-flow_none v p sp ws i z A h = (A, h, λ n o C w. subst (λ m. Words z p sp A (drop i ws) m o C) (omega arith) w)
-
 -- one part after the other
 pub flow_then : (v s w : View) (p : Paragraph) (sp : ℕ) (ws : List ℕ) (i j k : ℕ) → i ≤ j → j ≤ k → Flowing p sp ws i j v s → Flowing p sp ws j k s w → Flowing p sp ws i k v w
 flow_then v s w p sp ws i j k le on f g z A h =
@@ -97,12 +94,12 @@ pub stretched : (v : View) (p : Paragraph) (sp : ℕ) (ws taken : List ℕ) (i j
 stretched v p sp ws taken i j l is split count fits z A h =
     let g = grown sp taken l in
     let open_is : A.current ≡ Some l = sym h.current_is ∙ is in
-    let A-is : with_word A l ≡ A = λ k. record { placed = A.placed; lines = A.lines; boxes = A.boxes; cursor = A.cursor; count = A.count; para = A.para; current = sym open_is k } in (
+    let A_is : with_word A l ≡ A = λ k. record { placed = A.placed; lines = A.lines; boxes = A.boxes; cursor = A.cursor; count = A.count; para = A.para; current = sym open_is k } in (
       with_word A g,
       held_word g h,
       λ n o C w.
           let all = join_all {z = z} A p sp l.top taken l refl (λ some. subst (λ m. lengthened sp taken l.used ≤ room (band p.margins A.placed l.top m)) h.sized.line_is (fits A.placed h.tells some)) (drop j ws) n o C w in
-          let here : Words z p sp A (taken ++ drop j ws) (length taken + n) o C = subst (λ X. Words z p sp X (taken ++ drop j ws) (length taken + n) o C) A-is all in
+          let here : Words z p sp A (taken ++ drop j ws) (length taken + n) o C = subst (λ X. Words z p sp X (taken ++ drop j ws) (length taken + n) o C) A_is all in
           let there : Words z p sp A (drop i ws) (length taken + n) o C = subst (λ x. Words z p sp A x (length taken + n) o C) (sym split) here in
           subst (λ m. Words z p sp A (drop i ws) m o C) (omega arith) there,
     )

@@ -6,7 +6,7 @@ use Rattle.shapes.specs.Form.{most_units}
 use Rattle.reaches.specs.declared.reach.Reach.{Reach}
 use Rattle.rows.specs.declared.Rows.{Rows}
 use Rattle.rows.specs.Told.{Tells}
-use Rattle.rows.specs.Fit.{Fit as Fit-rows}
+use Rattle.rows.specs.Fit.{Fit as FitRows}
 use Rattle.rows.specs.Made.{Laid, Bare}
 use Rattle.rules.specs.declared.boxes.BoxRecord.{BoxRecord}
 use Rattle.rules.specs.declared.refusals.Refusal.{Refusal}
@@ -37,7 +37,7 @@ kept_empty z rows list line w h l p told = record {
   };
 }
 
-fit_empty : (rows : Rows) (list : List BoxRecord) (line : ℕ) → Fit-rows rows → line ≤ 255 → Fit (empty_view rows list line)
+fit_empty : (rows : Rows) (list : List BoxRecord) (line : ℕ) → FitRows rows → line ≤ 255 → Fit (empty_view rows list line)
 fit_empty rows list line f l = record {
   rows = f;
   list = omega arith;

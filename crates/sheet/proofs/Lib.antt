@@ -5,7 +5,6 @@ pub mod Panels
 pub mod Lines
 pub mod Ends
 pub mod Flows
-pub mod Fits
 pub mod Stretches
 pub mod Fresh
 pub mod Parts

@@ -1,6 +1,5 @@
 -- Words and lines. Assumes nothing.
-use Rattle.std.proofs.Common.{◌≡◌, ℕ, ◌+◌, ◌<◌, ◌≤◌, max, true, false, leb, List, ◌∷◌, length, set, Some, None, Ok, Err, Option, sym, refl, ap, ◌∙◌, subst, arith, length-set, drop-set-lt}
-use native.Mathlib.Numerals.{lt-add-one}
+use Rattle.std.proofs.Common.{◌≡◌, ℕ, ◌+◌, ◌<◌, ◌≤◌, max, true, false, leb, List, ◌∷◌, length, set, Some, None, Ok, Err, Option, sym, refl, ap, ◌∙◌, subst, arith, length-set, leb-false}
 use Rattle.places.specs.declared.parts.Span.{Span}
 use Rattle.places.specs.declared.parts.Line.{Line}
 use Rattle.places.specs.Panels.{Placed}
@@ -9,12 +8,13 @@ use Rattle.places.specs.Permitted.{Scene}
 use Rattle.places.specs.Theorems.{Sought}
 use Rattle.rows.specs.Told.{Tells}
 use Rattle.rows.specs.Asked.{sizes_of}
+use Rattle.rows.specs.Fit.{Fit as FitRows}
 use Rattle.rules.specs.declared.paragraphs.Paragraph.{Paragraph}
 use Rattle.rules.specs.declared.refusals.Refusal.TheVariants.{WideWord, ListFull, NoPlace}
 use Rattle.rules.specs.Account.{Size, rows_of, Account, scene, reserved, line_box, shut_boxes, below, start_row}
 use Rattle.rules.specs.Words.{Apart, longer, with_word, with_line, word_joins, word_opens, word_wide, word_full, word_none}
 use Rattle.rules.proofs.Single.{same_some}
-use Rattle.sheet.specs.View.{View, Boxed, Held, FitList, Rest, start_of}
+use Rattle.sheet.specs.View.{View, Boxed, Held, Fit, FitList, FitOpen, start_of}
 use Rattle.sheet.specs.Told.{Worded, WordTold}
 use Rattle.sheet.specs.Steps.{Joined, line_at, shut_at, Closed}
 use Rattle.sheet.proofs.Moves.{full_is, boxed_more}
@@ -132,13 +132,6 @@ left v w m c =
     let x = left_at v c.x v.current refl in
     subst (λ u. Left v u) (sym c.after) (record { rows = x.rows; long = x.long; line = x.line; used = x.used; para = x.para; idle = x.idle })
 
-rest_at : (v : View) (x : ℕ) (o : Option Line) → Rest v (shut_at x o v)
-rest_at v x (Some l) = record { grows = omega arith; keeps = drop-set-lt _ _ _ _ (lt-add-one v.used) }
-rest_at v x None = record { grows = omega arith; keeps = refl }
-
-pub rest_shut : (v w : View) (m : Span) → Closed v m w → Rest v w
-rest_shut v w m c = subst (λ u. Rest v u) (sym c.after) (rest_at v c.x v.current)
-
 -- A line begins
 
 pub word_full_up : (v : View) (p : Paragraph) (sp a : ℕ) → a ≤ room p.margins → Joined v p.margins sp a None → leb (length v.recs) (v.used + reserved v.current) ≡ true → WordTold p sp a (Err ListFull) v v
@@ -196,6 +189,19 @@ begins v w p sp a start t top le few none nf at f c is z A h =
       },
     )
 
+-- a line begins where another, if any, closed
+pub fit_begun : (v w : View) (m : Span) (t : ℕ) (l : Line) → Fit v → Closed v m w → leb (length v.recs) (v.used + reserved v.current) ≡ false → FitOpen v.line v.rows l → Fit (with_top w t l)
+fit_begun v w m t l f c free fits =
+    let x = left v w m c in
+    let room = leb-false _ _ free in
+    record {
+      rows = subst (λ r. FitRows r) (sym x.rows) f.rows;
+      list = (let a = x.long in let b = x.used in omega arith);
+      line = subst (λ n. n ≤ 255) (sym x.line) f.line;
+      current = λ n i. subst (λ k. FitOpen w.line w.rows k) (same_some refl i) (subst (λ r. FitOpen w.line r l) (sym x.rows) (subst (λ n. FitOpen n v.rows l) (sym x.line) fits));
+      para = λ p e. subst (λ r. (p.margins.from < p.margins.to) × (p.margins.to ≤ r.width)) (sym x.rows) (f.para p (sym x.para ∙ e));
+    }
+
 -- what closing does, by the band that it finds
 pub closed_at : (v : View) (m : Span) (l : Line) (b : Span) → v.current ≡ Some l → ((qs : List Placed) → Tells v.rows qs → b ≡ band m qs l.top v.line) → Closed v m (shut_at b.from (Some l) v)
 closed_at v m l b e f = record {
@@ -203,13 +209,3 @@ closed_at v m l b e f = record {
   edge = λ k qs i t. ap (λ s. s.from) (f qs t) ∙ ap (λ n. (band m qs n.top v.line).from) (same_some e i);
   after = ap (λ o. shut_at b.from o v) (sym e);
 }
-
--- the word joined, or not, by the band that is found
-pub joined_at : (v : View) (m : Span) (sp a : ℕ) (l k : Line) (b : Span) → v.current ≡ Some l → ((qs : List Placed) → Tells v.rows qs → b ≡ band m qs l.top v.line) → k ≡ longer sp a l → l.used + sp + a ≤ room b → Joined v m sp a (Some k)
-joined_at v m sp a l k b e f is le = (l, e, is, λ qs t. subst (λ s. l.used + sp + a ≤ room s) (f qs t) le)
-
-pub joined_not : (v : View) (m : Span) (sp a : ℕ) (l : Line) (b : Span) → v.current ≡ Some l → ((qs : List Placed) → Tells v.rows qs → b ≡ band m qs l.top v.line) → room b < l.used + sp + a → Joined v m sp a None
-joined_not v m sp a l b e f lt k qs i t le =
-    let same = same_some e i in
-    let le' : l.used + sp + a ≤ room b = subst (λ s. l.used + sp + a ≤ room s) (sym (f qs t)) (subst (λ n. n.used + sp + a ≤ room (band m qs n.top v.line)) (sym same) le) in
-    omega arith

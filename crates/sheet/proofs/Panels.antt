@@ -106,7 +106,7 @@ top_after z A p {o} {x} {y} b =
 pub panel_stands : (v : View) (rows : Rows) (p : Paragraph) (o : Wanted) (start : ℕ) (q : Place) (b : BoxRecord) (lows : Bottoms) → b ≡ panel_box o q.x q.y → lows ≡ with_bottom o.side (q.y + o.form.tall) v.bottoms → Ready v p o → start ≡ max (max v.top p.top) (lowest o.clear v.bottoms) → Placing v p o start (Some q)
     → Stays v.rows rows → ((qs : List Placed) → Tells v.rows qs → Tells rows (put o q.x q.y ∷ qs))
     → Told (panels o) (stands q.x q.y) v (panel_view v rows b q.y lows)
-panel_stands v rows p o start q b lows is_b is-lows g at f same told z past k =
+panel_stands v rows p o start q b lows is_b is_lows g at f same told z past k =
     let h = k.held in
     let A = k.account in
     let best = found k p o start (Some q) at f in
@@ -115,7 +115,7 @@ panel_stands v rows p o start q b lows is_b is-lows g at f same told z past k =
       sized = record { width_is = same.width ∙ h.sized.width_is; height_is = same.height ∙ h.sized.height_is; line_is = h.sized.line_is; places_is = length-set _ _ _ ∙ h.sized.places_is };
       tells = told A.placed h.tells;
       top_is = top_after z A p best.permitted;
-      bottoms_are = is-lows ∙ ap (with_bottom o.side (q.y + o.form.tall)) h.bottoms_are ∙ with_is (put o q.x q.y) A.placed;
+      bottoms_are = is_lows ∙ ap (with_bottom o.side (q.y + o.form.tall)) h.bottoms_are ∙ with_is (put o q.x q.y) A.placed;
       boxed = subst (λ r. Boxed (r ∷ A.boxes) (v.used + 1) (set v.recs v.used b)) is_b (boxed_more A.boxes v.recs v.used b (omega arith) h.boxed);
       cursor_is = h.cursor_is;
       count_is = h.count_is;

@@ -20,7 +20,7 @@ use Rattle.places.specs.Panels.{Placed}
 use Rattle.places.specs.Bands.{room, band}
 use Rattle.rows.specs.Told.{Tells}
 use Rattle.rules.specs.declared.paragraphs.Paragraph.{Paragraph}
-use Rattle.sheet.specs.View.{View, Fit, FitOpen}
+use Rattle.sheet.specs.View.{View}
 use Rattle.sheet.specs.Told.{Flowing}
 use Rattle.sheet.specs.Stores.{advances_in}
 use Rattle.sheet.proofs.Lines.{with_current}
@@ -164,7 +164,7 @@ same_line t u u' n n' p q = cc
 
 pub stretches : (v : View) (p : Paragraph) (t : Text) (sp i j w : ℕ) (l : Line) (b : Span) (r : Run) → sp ≡ t.space → v.current ≡ Some l → ((qs : List Placed) → Tells v.rows qs → b ≡ band p.margins qs l.top v.line)
     → l.used + sp ≤ room b → i < j → Taken t sp (room b - (l.used + sp)) i j r → w ≡ width_of r sp → Flowing p t.space (advances_in t) i j v (with_current v (stretched_line l sp w r))
-stretches v p t sp i j w l b r is-sp is found fits lt k is-w =
+stretches v p t sp i j w l b r is_sp is found fits lt k is_w =
     let ws = advances_in t in
     let xs = taken ws i j in
     let long = k.run.long l.used in
@@ -172,12 +172,7 @@ stretches v p t sp i j w l b r is-sp is found fits lt k is-w =
     let flows : Flowing p sp ws i j v (with_current v (grown sp xs l)) =
     stretched v p sp ws xs i j l is (taken_split ws i j (omega arith)) (taken_length ws i j (omega arith) k.in_list)
     (λ qs told some. subst (λ s. lengthened sp xs l.used ≤ room s) (found qs told) (let f = k.fits in omega arith)) in
-    subst (λ s. Flowing p s ws i j v (with_current v (stretched_line l sp w r))) is-sp (subst (λ x. Flowing p sp ws i j v (with_current v x)) line flows)
-
-pub stretched_fits : (v : View) (t : Text) (sp room i j w : ℕ) (l : Line) (r : Run) → Fit v → v.current ≡ Some l → Taken t sp room i j r → w ≡ width_of r sp → FitOpen v.line v.rows (stretched_line l sp w r)
-stretched_fits v t sp room i j w l r f is k is-w =
-    let o = f.current l is in
-    record { low = o.low; words = (let a = o.words in let b = k.run.few in omega arith) }
+    subst (λ s. Flowing p s ws i j v (with_current v (stretched_line l sp w r))) is_sp (subst (λ x. Flowing p sp ws i j v (with_current v x)) line flows)
 
 pub past_all : (t : Text) (i : ℕ) → length (words_in t) ≤ i → length (advances_in t) ≤ i
 past_all t i le = let long = length-map (words_in t) (λ w. w.advance) in omega arith

@@ -1,6 +1,6 @@
 -- How a sheet's fields are read, and what its calls answer, in the words of the account. Assumes nothing.
 --     view s            the fields of s
---     ..-answer r       the answer r of a call
+--     .._answer r       the answer r of a call
 --     advances_in t     the advances of a text's words
 use Rattle.std.specs.Prelude.{ℕ, List, map, Ok, Err, Result}
 use Rattle.places.specs.declared.parts.Place.{Place}

@@ -13,7 +13,7 @@ use Rattle.places.specs.Tried.{panel_tops, greatest}
 use Rattle.reaches.specs.declared.reach.Reach.{Reach}
 use Rattle.reaches.specs.Reaches.{no_reach, farther}
 use Rattle.rows.specs.declared.Rows.{Rows}
-use Rattle.rows.specs.Fit.{Fit as Fit-rows}
+use Rattle.rows.specs.Fit.{Fit as FitRows}
 use Rattle.rows.specs.Told.{Tells}
 use Rattle.rules.specs.declared.boxes.BoxRecord.{BoxRecord}
 use Rattle.rules.specs.declared.paragraphs.Paragraph.{Paragraph}
@@ -90,7 +90,7 @@ abbrev pub FitPara : View → Type 0
 FitPara v = (p : Paragraph) → v.para ≡ Some p → (p.margins.from < p.margins.to) × (p.margins.to ≤ v.rows.width)
 
 pub record Fit (v : View) : Type 0 where
-  pub rows : Fit-rows v.rows
+  pub rows : FitRows v.rows
   pub list : FitList v
   pub line : FitLine v
   pub current : FitCurrent v

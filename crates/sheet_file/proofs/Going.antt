@@ -1,7 +1,6 @@
 -- One line after another, up to the first fault. Assumes nothing.
-use Rattle.std.proofs.Common.{◌≡◌, ℕ, suc, ◌+◌, ◌-◌, ◌<◌, ◌≤◌, List, [], ◌∷◌, drop, IfOk, Some, None, Ok, Err, Option, Result, sym, refl, ap, ◌∙◌, subst, arith, drop-drop}
+use Rattle.std.proofs.Common.{◌≡◌, ℕ, suc, ◌+◌, ◌-◌, ◌<◌, ◌≤◌, List, [], ◌∷◌, drop, IfOk, Some, Ok, Err, Option, Result, sym, refl, ap, ◌∙◌, subst, arith, drop-drop}
 use Rattle.lexer.specs.Lines.{FileLine}
-use Rattle.rules.specs.Runs.{Event}
 use Rattle.sheet.specs.declared.sheet.Sheet.{Sheet}
 use Rattle.items.specs.declared.faults.Located.{Located}
 use Rattle.sheet_file.specs.declared.cursors.Cursor.{Cursor}

@@ -1,5 +1,5 @@
 -- A whole file, from its lines to its boxes. Assumes nothing.
-use Rattle.std.proofs.Common.{◌≡◌, ℕ, ◌+◌, ◌<◌, ◌≤◌, cond, List, [], ◌∷◌, length, drop, Ok, Err, Option, Result, sym, refl, ap, ◌∙◌, subst, subst₂, arith, le-ltb, lt-ltb}
+use Rattle.std.proofs.Common.{◌≡◌, ℕ, ◌<◌, ◌≤◌, cond, List, [], ◌∷◌, length, drop, Ok, Err, Option, Result, sym, refl, ap, ◌∙◌, subst₂, arith, le-ltb, lt-ltb}
 use Rattle.lexer.specs.Lines.{FileLine, file_lines}
 use Rattle.lines.specs.declared.headings.SheetLine.{SheetLine}
 use Rattle.sheet.specs.Fresh.{new_size}

@@ -1,10 +1,10 @@
 -- One paragraph after another. Assumes nothing.
-use Rattle.std.proofs.Common.{◌≡◌, ℕ, suc, ◌+◌, List, [], ◌∷◌, drop, IfOk, Some, None, Ok, Err, Option, Result, sym, refl, ap, ◌∙◌, subst, subst₂, arith}
+use Rattle.std.proofs.Common.{◌≡◌, ℕ, suc, ◌+◌, List, ◌∷◌, drop, IfOk, Some, None, Ok, Err, Option, Result, sym, ap, ◌∙◌, subst, subst₂, arith}
 use Rattle.lexer.specs.Lines.{FileLine}
 use Rattle.lines.specs.declared.paragraphs.ParaLine.{ParaLine}
 use Rattle.places.specs.declared.parts.Span.{Span}
 use Rattle.rules.specs.declared.refusals.Refusal.{Refusal}
-use Rattle.rules.specs.Runs.{Event, event, opens, ends, opened, ended, refused}
+use Rattle.rules.specs.Runs.{event, opens, ends, opened, ended, refused}
 use Rattle.sheet.specs.declared.sheet.Sheet.{Sheet}
 use Rattle.sheet.specs.Sheets.{Tells}
 use Rattle.items.specs.declared.faults.FileFault.TheVariants.{Refused}
@@ -14,7 +14,7 @@ use Rattle.sheet_file.specs.declared.cursors.Cursor.{Cursor}
 use Rattle.sheet_file.specs.Cursors.{ahead, number}
 use Rattle.sheet_file.specs.Plans.{Setting, Para, Paras, no_paras, with_para, para_of, first_line, heading_of, headed, surplus, paras_plan}
 use Rattle.sheet_file.specs.Done.{fault_in, Done, ParaDone, unopened, ended_after, ParasDone, all_ended, one_ended, one_faulty, Goes}
-use Rattle.sheet_file.specs.Turns.{Leading, Turned, Forward}
+use Rattle.sheet_file.specs.Turns.{Turned, Forward}
 
 module _ (P : Para) (m : Span) (is : m ≡ P.margins) (s t : Sheet) where
   pub para_refused : (e : Refusal) → Tells (opens m P.clear) (refused e) s t → Goes (λ es fs. ParaDone P es fs (Some (at_line P.line (Refused (setback e 0))))) s t

@@ -1,4 +1,5 @@
 // The sheet file: which calls its lines ask for, and what comes of them.
+#![tactic(auto)]
 
 // The lines of a file, with their numbers.
 pub(crate) mod cursors;
@@ -10,7 +11,7 @@ pub(crate) mod desks;
 pub(crate) mod headings;
 
 // The items of a paragraph.
-pub(crate) mod items;
+pub(crate) mod paragraph_items;
 
 // The paragraphs of a file.
 pub(crate) mod paragraphs;

@@ -11,7 +11,7 @@ ghost use Rattle.sheet_file.specs.Turns.{Took, Turned, Forward};
 
 use crate::cursors::Cursor;
 use crate::desks::Desk;
-use crate::items::set_items;
+use crate::paragraph_items::set_items;
 use crate::readers::formed;
 use items::faults::{FileFault, Located, SheetFault};
 use lines::paragraphs::{ParaLine, para_line};

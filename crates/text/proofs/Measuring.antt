@@ -1,14 +1,13 @@
 -- What measuring gives where there is no fault. Assumes nothing.
-use Rattle.std.proofs.Common.{◌≡◌, ℕ, ◌*◌, ◌<◌, ◌≤◌, false, List, [], length, get_or, take, drop, is_some, Some, None, Option, sym, refl, ap, ◌∙◌, subst, arith}
+use Rattle.std.proofs.Common.{◌≡◌, ℕ, ◌<◌, ◌≤◌, false, List, [], length, get_or, drop, is_some, Some, None, Option, sym, refl, ap, ◌∙◌, subst, arith}
 use Rattle.metrics.specs.Advance.{Advances}
-use Rattle.segment_tree.specs.LeafCount.{leaf_count}
-use Rattle.std.proofs.lemmas.List.{length-map, get_or_append_left, take_at}
+use Rattle.std.proofs.lemmas.List.{length-map, get_or_append_left}
 use Rattle.std.proofs.lemmas.Bool.{false≢true}
 use Rattle.std.proofs.lemmas.Bool.Decides.{nat_tests}
 use Rattle.words.specs.Words.{words_of}
 use Rattle.text.specs.Fault.{longest_text, text_fault}
 use Rattle.text.specs.Measure.{measured, word_of, laid, FitAdvance, no_word}
-use Rattle.text.specs.Text.{unless, accepted, cells_used}
+use Rattle.text.specs.Text.{unless, accepted}
 use Rattle.text.specs.declared.faults.TextFault.{TextFault}
 use Rattle.text.specs.declared.records.Word.{Word}
 use Rattle.text.proofs.Advances.{measured_fits}
@@ -24,22 +23,11 @@ module _ (adv : ℕ → ℕ) (text : List ℕ) (words cells : ℕ) (none : text_
   pub short : length text ≤ longest_text
   short = grind (arith, nat_tests)
 
-  pub records_enough : length (words_of text) ≤ words
-  records_enough = grind (arith, nat_tests)
-
   pub all_accepted : accepted adv text words cells ≡ measured adv text
   all_accepted = ap (λ f. unless f [] (measured adv text)) none
 
-  pub all_used : cells_used text words cells ≡ 2 * leaf_count (length (words_of text))
-  all_used = ap (λ f. unless f 0 (2 * leaf_count (length (words_of text)))) none
-
 -- the records in use, where the words have been laid over the list
 module _ (adv : ℕ → ℕ) (text : List ℕ) (old new : List Word) (is : new ≡ laid (measured adv text) old) where
-  pub laid_are : (n : ℕ) → n ≡ length (words_of text) → take n new ≡ measured adv text
-  laid_are n e =
-      let all = measured adv text in
-      ap (take n) is ∙ take_at all (drop (length all) old) n (length-map (words_of text) (word_of adv text) ∙ sym e)
-
   pub laid_fits : Advances adv → length text ≤ longest_text → (k : ℕ) → k < length (words_of text) → FitAdvance (get_or new k no_word).advance
   laid_fits law few k h =
       let all = measured adv text in

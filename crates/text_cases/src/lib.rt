@@ -1,4 +1,5 @@
 // Files, texts and trees, run through the public functions of the libraries. There is nothing but tests here.
+#![tactic(auto)]
 
 // The lines and fields of a file.
 #[cfg(test)]

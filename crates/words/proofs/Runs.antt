@@ -2,13 +2,10 @@
 use Rattle.std.proofs.Common.{◌≡◌, ℕ, zero, suc, ◌+◌, ◌-◌, ◌<◌, ◌≤◌, Bool, true, false, List, [], ◌∷◌, length, get_or, drop, sym, ap, ◌∙◌, ⊎_elim, one-add, arith}
 use Rattle.std.specs.List.{prefix_len}
 use Rattle.std.proofs.lemmas.List.{length-drop, get_or-drop}
-use Rattle.std.proofs.lemmas.List.Sums.{prefix_len-drop_yes, prefix_len-drop_no, prefix_len-drop_all, prefix_len-le-length}
+use Rattle.std.proofs.lemmas.List.Sums.{prefix_len-drop_no, prefix_len-drop_all, prefix_len-le-length}
 use Rattle.std.proofs.lemmas.Bool.{cases_Bool, cond-true, cond-false}
 
 module _ (p : ℕ → Bool) (text : List ℕ) (at : ℕ) where
-  pub run_on : at < length text → p (get_or text at 0) ≡ true → at + 1 + prefix_len p (drop (at + 1) text) ≡ at + prefix_len p (drop at text)
-  run_on h t = omega (arith, prefix_len-drop_yes p text at 0 h t)
-
   pub run_out : at < length text → p (get_or text at 0) ≡ false → at ≡ at + prefix_len p (drop at text)
   run_out h f = omega (arith, prefix_len-drop_no p text at 0 h f)
 

@@ -1,6 +1,5 @@
-use Rattle.std.proofs.Common.{◌≡◌, ℕ, ◌-◌, List, [], length, Ok, Err, Result, sym, refl, ap, ◌∙◌, subst, arith}
+use Rattle.std.proofs.Common.{◌≡◌, ℕ, ◌-◌, [], length, Err, Result, sym, ap, ◌∙◌, subst, arith}
 use Rattle.std.proofs.lemmas.Result.{err_from_is_err_and}
-use Rattle.shapes.specs.Form.{Form}
 use Rattle.shapes.specs.Models.{stairs_model}
 use Rattle.items.specs.declared.faults.Located.{Located}
 use Rattle.items.specs.declared.shelves.Shelf.{Shelf}
@@ -20,24 +19,24 @@ loop-done-init c =
     let none = c.new-shelf.ensures in
     (forward_none c.args.cursor.now, ap length none, ap (λ (k : ℕ). shapes_plan k n ls []) (omega arith) ∙ ap (shapes_plan (c.args.count - 0) n ls) (sym none))
 
-pub returns-in-err-stairs : goal.returns-in-err-stairs
-returns-in-err-stairs c =
+pub returns-in_err-stairs : goal.returns-in_err-stairs
+returns-in_err-stairs c =
     let from = c.args.cursor.now in
     let here = c.loop-done.cursor in
-    let x = c.in-err-stairs.field-0.0 in
-    let p = err_from_is_err_and c.from-residual.result c.from-residual.ensures.1 in
-    let is : c.from-residual.result ≡ Err x = p.1 ∙ ap Err p.2 in
-    subst (λ (r : Result Shelf Located). ShelfTold c.args.count from r c.next-stairs.new.cursor) (sym is)
-    (shapes_stop (shapes_plan c.args.count (number from) (ahead from) []) c.args.count c.loop-done.done (number here) (ahead here) (kept c.loop-done.shelf) c.loop-done.invariant.2 x c.loop-done-test.true c.in-err-stairs.ensures)
+    let x = c.in_err-stairs.field-0.0 in
+    let p = err_from_is_err_and c.from_residual.result c.from_residual.ensures.1 in
+    let is : c.from_residual.result ≡ Err x = p.1 ∙ ap Err p.2 in
+    subst (λ (r : Result Shelf Located). ShelfTold c.args.count from r c.next_stairs.new.cursor) (sym is)
+    (shapes_stop (shapes_plan c.args.count (number from) (ahead from) []) c.args.count c.loop-done.done (number here) (ahead here) (kept c.loop-done.shelf) c.loop-done.invariant.2 x c.loop-done-test.true c.in_err-stairs.ensures)
 
 pub loop-done-preserved : goal.loop-done-preserved
 loop-done-preserved c =
     let from = c.args.cursor.now in
     let here = c.loop-done.cursor in
-    let to = c.next-stairs.new.cursor in
+    let to = c.next_stairs.new.cursor in
     let inv = c.loop-done.invariant in
-    let h = c.in-ok-stairs.ensures in
-    let f = stairs_model c.in-ok-stairs.stairs in (
+    let h = c.in_ok-stairs.ensures in
+    let f = stairs_model c.in_ok-stairs.stairs in (
       forward_then c.loop-done.done 1 from here to inv.0 (forward_one stairs_of here to f h.0 h.1),
       length_kept f (kept c.loop-done.shelf) (kept c.put.new.self) c.loop-done.done inv.1 (omega (arith, c.requires)) c.put.ensures,
       shapes_more (shapes_plan c.args.count (number from) (ahead from) []) c.args.count c.loop-done.done (number here) (ahead here) (kept c.loop-done.shelf) inv.2 f (number to) (ahead to) (kept c.put.new.self) c.loop-done-test.true (omega (arith, inv.1, c.requires)) h.0 h.1 c.put.ensures,

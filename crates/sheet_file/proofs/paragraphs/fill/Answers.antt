@@ -36,11 +36,11 @@ returns-in-Ok c =
     let P = para_of S from.read c.args.head (ahead from) in
     let s = c.args.sheet.now in
     let t = c.open.new.self in
-    let u = c.set-items-done.new.sheet in
+    let u = c.set_items-done.new.sheet in
     let v = c.spend.new.sheet in
     let opening : Spares s t = record { list = c.open.ensures.rest; rows = stays_is s.store.rows t.store.rows c.open.ensures.memory.0 } in
     record {
-      spares = spares_then s u v (spares_then s t u opening c.set-items-done.ensures.spares) c.spend.ensures.spares;
-      forward = c.set-items-done.ensures.forward;
-      told = para_ended P c.margins.result c.margins.ensures s t c.in-Ok.slip.number (fault_in c.set-items-done.result) u v c.in-Ok.ensures.account c.set-items-done.ensures.told c.spend.ensures.told;
+      spares = spares_then s u v (spares_then s t u opening c.set_items-done.ensures.spares) c.spend.ensures.spares;
+      forward = c.set_items-done.ensures.forward;
+      told = para_ended P c.margins.result c.margins.ensures s t c.in-Ok.slip.number (fault_in c.set_items-done.result) u v c.in-Ok.ensures.account c.set_items-done.ensures.told c.spend.ensures.told;
     }

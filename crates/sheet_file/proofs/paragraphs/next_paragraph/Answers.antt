@@ -1,6 +1,5 @@
-use Rattle.std.proofs.Common.{◌≡◌, length, Ok, Err, Result, sym, ap, ◌∙◌, subst}
+use Rattle.std.proofs.Common.{◌≡◌, length, Err, Result, sym, ap, ◌∙◌, subst}
 use Rattle.std.proofs.lemmas.Result.{err_from_is_err_and}
-use Rattle.lexer.specs.Lines.{FileLine}
 use Rattle.items.specs.declared.faults.Located.{Located}
 use Rattle.items.proofs.Sparing.{spares_none}
 use Rattle.sheet_file.specs.Desks.{setting}
@@ -10,25 +9,25 @@ use Rattle.sheet_file.specs.Turns.{Turned}
 use Rattle.sheet_file.proofs.ParaByPara.{para_filled, para_unread}
 use Rattle.sheet_file.proofs.paragraphs.next_paragraph.Goals as goal
 
-pub returns-in-err-head : goal.returns-in-err-head
-returns-in-err-head c =
+pub returns-in_err-head : goal.returns-in_err-head
+returns-in_err-head c =
     let S = setting c.args.desk.now (length c.args.words.now) (length c.args.runs.now) in
     let s = c.args.sheet.now in
     let from = c.args.cursor.now in
-    let to = c.next-heading.new.cursor in
-    let x = c.in-err-head.field-0.0 in
-    let p = err_from_is_err_and c.from-residual.result c.from-residual.ensures.1 in
-    let is : c.from-residual.result ≡ Err x = p.1 ∙ ap Err p.2 in
+    let to = c.next_heading.new.cursor in
+    let x = c.in_err-head.field-0.0 in
+    let p = err_from_is_err_and c.from_residual.result c.from_residual.ensures.1 in
+    let is : c.from_residual.result ≡ Err x = p.1 ∙ ap Err p.2 in
     record {
       spares = spares_none s;
-      told = subst (λ (r : Result (Unit {0}) Located). Turned ParasDone (paras_plan S) from r to s s) (sym is) (para_unread S from to s x c.in-err-head.ensures);
+      told = subst (λ (r : Result (Unit {0}) Located). Turned ParasDone (paras_plan S) from r to s s) (sym is) (para_unread S from to s x c.in_err-head.ensures);
     }
 
 pub returns : goal.returns
 returns c =
     let S = setting c.args.desk.now (length c.args.words.now) (length c.args.runs.now) in
-    let h = c.in-ok-head.ensures in
+    let h = c.in_ok-head.ensures in
     record {
       spares = c.fill.ensures.spares;
-      told = para_filled S c.args.cursor.now c.next-heading.new.cursor c.fill.new.cursor c.in-ok-head.head c.args.sheet.now c.fill.new.sheet h.0 h.1 c.fill.result c.fill.ensures.forward c.fill.ensures.told;
+      told = para_filled S c.args.cursor.now c.next_heading.new.cursor c.fill.new.cursor c.in_ok-head.head c.args.sheet.now c.fill.new.sheet h.0 h.1 c.fill.result c.fill.ensures.forward c.fill.ensures.told;
     }

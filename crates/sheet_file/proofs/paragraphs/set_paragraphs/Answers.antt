@@ -1,4 +1,4 @@
-use Rattle.std.proofs.Common.{◌≡◌, ℕ, length, Ok, Err, Result, sym, ap, ◌∙◌, subst, subst₂, arith}
+use Rattle.std.proofs.Common.{◌≡◌, ℕ, length, Ok, Err, Result, sym, ap, ◌∙◌, subst, subst₂}
 use Rattle.std.proofs.lemmas.Result.{err_from_is_err_and}
 use Rattle.items.specs.declared.faults.Located.{Located}
 use Rattle.items.proofs.Sparing.{spares_none, spares_then}
@@ -16,21 +16,21 @@ loop-set-init c =
     let S = setting c.args.desk.now (length c.args.words.now) (length c.args.runs.now) in
     (spares_none c.args.sheet.now, turns_none ParasDone (paras_plan S) c.args.count c.args.cursor.now c.args.sheet.now)
 
-pub returns-in-err-next-paragraph : goal.returns-in-err-next-paragraph
-returns-in-err-next-paragraph c =
+pub returns-in_err-next_paragraph : goal.returns-in_err-next_paragraph
+returns-in_err-next_paragraph c =
     let S = setting c.args.desk.now (length c.args.words.now) (length c.args.runs.now) in
     let s = c.args.sheet.now in
     let t = c.loop-set.sheet in
-    let u = c.next-paragraph.new.sheet in
+    let u = c.next_paragraph.new.sheet in
     let from = c.loop-set.cursor in
-    let to = c.next-paragraph.new.cursor in
+    let to = c.next_paragraph.new.cursor in
     let I = paras_plan S c.args.count (number c.args.cursor.now) (ahead c.args.cursor.now) in
-    let x = c.in-err-next-paragraph.field-0.0 in
-    let p = err_from_is_err_and c.from-residual.result c.from-residual.ensures.1 in
-    let is : c.from-residual.result ≡ Err x = p.1 ∙ ap Err p.2 in
-    let told : Turned ParasDone (paras_plan S) from (Err x) to t u = subst₂ (λ (j k : ℕ). Turned ParasDone (paras_plan (setting c.args.desk.now j k)) from (Err x) to t u) c.loop-set.auto.words c.loop-set.auto.runs c.in-err-next-paragraph.ensures.told in
+    let x = c.in_err-next_paragraph.field-0.0 in
+    let p = err_from_is_err_and c.from_residual.result c.from_residual.ensures.1 in
+    let is : c.from_residual.result ≡ Err x = p.1 ∙ ap Err p.2 in
+    let told : Turned ParasDone (paras_plan S) from (Err x) to t u = subst₂ (λ (j k : ℕ). Turned ParasDone (paras_plan (setting c.args.desk.now j k)) from (Err x) to t u) c.loop-set.auto.words c.loop-set.auto.runs c.in_err-next_paragraph.ensures.told in
     record {
-      spares = spares_then s t u c.loop-set.invariant.0 c.next-paragraph.ensures.spares;
+      spares = spares_then s t u c.loop-set.invariant.0 c.next_paragraph.ensures.spares;
       told = subst (λ (r : Result (Unit {0}) Located). Goes (λ es fs. ParasDone I es fs (fault_in r)) s u) (sym is) (turns_stop ParasDone (paras_plan S) I c.args.count c.loop-set.set from to s t u c.loop-set.invariant.1 x c.loop-set-test.true told);
     }
 
@@ -39,12 +39,12 @@ loop-set-preserved c =
     let S = setting c.args.desk.now (length c.args.words.now) (length c.args.runs.now) in
     let s = c.args.sheet.now in
     let t = c.loop-set.sheet in
-    let u = c.next-paragraph.new.sheet in
+    let u = c.next_paragraph.new.sheet in
     let from = c.loop-set.cursor in
-    let to = c.next-paragraph.new.cursor in
+    let to = c.next_paragraph.new.cursor in
     let I = paras_plan S c.args.count (number c.args.cursor.now) (ahead c.args.cursor.now) in
-    let told : Turned ParasDone (paras_plan S) from (Ok tt) to t u = subst₂ (λ (j k : ℕ). Turned ParasDone (paras_plan (setting c.args.desk.now j k)) from (Ok tt) to t u) c.loop-set.auto.words c.loop-set.auto.runs c.in-ok-next-paragraph.ensures.told in (
-      spares_then s t u c.loop-set.invariant.0 c.next-paragraph.ensures.spares,
+    let told : Turned ParasDone (paras_plan S) from (Ok tt) to t u = subst₂ (λ (j k : ℕ). Turned ParasDone (paras_plan (setting c.args.desk.now j k)) from (Ok tt) to t u) c.loop-set.auto.words c.loop-set.auto.runs c.in_ok-next_paragraph.ensures.told in (
+      spares_then s t u c.loop-set.invariant.0 c.next_paragraph.ensures.spares,
       turns_more ParasDone (paras_plan S) I c.args.count c.loop-set.set from to s t u c.loop-set.invariant.1 tt c.loop-set-test.true told,
     )
 

@@ -1,20 +1,20 @@
-use Rattle.std.proofs.Common.{◌≡◌, List, length, Some, Ok, Err, Result, sym, ap, ◌∙◌, subst}
+use Rattle.std.proofs.Common.{◌≡◌, length, Some, Err, Result, sym, ap, ◌∙◌, subst}
 use Rattle.std.proofs.lemmas.Result.{err_from_is_err_and}
 use Rattle.items.specs.declared.faults.Located.{Located}
 use Rattle.items.proofs.Sparing.{spares_none}
 use Rattle.sheet_file.specs.Cursors.{ahead}
 use Rattle.sheet_file.specs.Done.{fault_in, ParasDone, all_ended, Goes}
-use Rattle.sheet_file.specs.Plans.{Body, Paras, no_paras, body_of, body_plan}
+use Rattle.sheet_file.specs.Plans.{Paras, no_paras, body_of, body_plan}
 use Rattle.sheet_file.proofs.reading.lay_out.Goals as goal
 
-pub returns-in-err-body : goal.returns-in-err-body
-returns-in-err-body c =
+pub returns-in_err-body : goal.returns-in_err-body
+returns-in_err-body c =
     let s = c.args.sheet.now in
     let B = body_of c.args.width (length c.args.words.now) (length c.args.runs.now) (ahead c.args.cursor.now) in
-    let x = c.in-err-body.field-0.0 in
-    let p = err_from_is_err_and c.from-residual.result c.from-residual.ensures.1 in
-    let is : c.from-residual.result ≡ Err x = p.1 ∙ ap Err p.2 in
-    let none : body_plan B ≡ no_paras (Some x) = ap body_plan (c.in-err-body.ensures (length c.args.words.now) (length c.args.runs.now)) in
+    let x = c.in_err-body.field-0.0 in
+    let p = err_from_is_err_and c.from_residual.result c.from_residual.ensures.1 in
+    let is : c.from_residual.result ≡ Err x = p.1 ∙ ap Err p.2 in
+    let none : body_plan B ≡ no_paras (Some x) = ap body_plan (c.in_err-body.ensures (length c.args.words.now) (length c.args.runs.now)) in
     let here : Goes (λ es fs. ParasDone (body_plan B) es fs (Some x)) s s = λ z past h. (past, h, subst (λ (P : Paras). ParasDone P past past (Some x)) (sym none) all_ended) in
     record {
       spares = spares_none s;
@@ -24,10 +24,10 @@ returns-in-err-body c =
 pub returns : goal.returns
 returns c =
     let s = c.args.sheet.now in
-    let t = c.set-paragraphs.new.sheet in
+    let t = c.set_paragraphs.new.sheet in
     let B = body_of c.args.width (length c.args.words.now) (length c.args.runs.now) (ahead c.args.cursor.now) in
-    let is = ap body_plan (c.in-ok-body.ensures (length c.args.words.now) (length c.args.runs.now)) in
+    let is = ap body_plan (c.in_ok-body.ensures (length c.args.words.now) (length c.args.runs.now)) in
     record {
-      spares = c.set-paragraphs.ensures.spares;
-      told = subst (λ (P : Paras). Goes (λ es fs. ParasDone P es fs (fault_in c.set-paragraphs.result)) s t) (sym is) c.set-paragraphs.ensures.told;
+      spares = c.set_paragraphs.ensures.spares;
+      told = subst (λ (P : Paras). Goes (λ es fs. ParasDone P es fs (fault_in c.set_paragraphs.result)) s t) (sym is) c.set_paragraphs.ensures.told;
     }

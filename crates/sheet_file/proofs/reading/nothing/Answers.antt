@@ -1,4 +1,4 @@
-use Rattle.std.proofs.Common.{◌≡◌, List, [], length, drop, Some, Option, sym, ap, ◌∙◌, subst}
+use Rattle.std.proofs.Common.{[], length, drop, Some, Option, sym, ap, subst}
 use Rattle.items.specs.declared.faults.Located.{Located}
 use Rattle.sheet_file.specs.Done.{all_ended}
 use Rattle.sheet_file.specs.Laid.{Laid}

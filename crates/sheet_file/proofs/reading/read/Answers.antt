@@ -1,4 +1,4 @@
-use Rattle.std.proofs.Common.{◌≡◌, ℕ, List, [], length, drop, Option, sym, refl, ap, ◌∙◌, subst}
+use Rattle.std.proofs.Common.{◌≡◌, ℕ, [], length, drop, Option, sym, ap, ◌∙◌, subst}
 use Rattle.sheet.specs.Fresh.{new_size}
 use Rattle.sheet.specs.Sheets.{Past}
 use Rattle.items.specs.declared.faults.Located.{Located}
@@ -38,12 +38,12 @@ returns-in-Ok c =
     let runs = length c.args.runs.now in
     let places = length c.args.list.now in
     let from = c.new-cursor.result in
-    let rest = ahead c.next-size.new.cursor in
+    let rest = ahead c.next_size.new.cursor in
     let size = c.in-Ok.size in
     let s = c.new-sheet.result in
-    let t = c.lay-out-done.new.sheet in
+    let t = c.lay_out-done.new.sheet in
     let bs = c.finished.result.boxes.now in
-    let o = fault_in c.lay-out-done.result in
+    let o = fault_in c.lay_out-done.result in
     let wide : c.from-width.result ≡ size.width = cc in
     let tall : c.from-height.result ≡ size.height = cc in
     let deep : c.from.result ≡ size.line = cc in
@@ -52,10 +52,10 @@ returns-in-Ok c =
     let a : Past (new_size size.width c.from-height.result c.from.result cells places) [] s = subst (λ (w : ℕ). Past (new_size w c.from-height.result c.from.result cells places) [] s) wide c.new-sheet.ensures.account in
     let b : Past (new_size size.width size.height c.from.result cells places) [] s = subst (λ (h : ℕ). Past (new_size size.width h c.from.result cells places) [] s) tall a in
     let fresh : Past P.size [] s = subst (λ (l : ℕ). Past (new_size size.width size.height l cells places) [] s) deep b in
-    let goes : Goes (λ es fs. ParasDone P.body es fs o) s t = subst (λ (w : ℕ). Goes (λ es fs. ParasDone (body_plan (body_of w records runs rest)) es fs o) s t) wide c.lay-out-done.ensures.told in
-    let fault : c.finished.result.fault ≡ o = c.finished.ensures.fault ∙ c.err.ensures.value ∙ fault_part c.lay-out-done.result in
+    let goes : Goes (λ es fs. ParasDone P.body es fs o) s t = subst (λ (w : ℕ). Goes (λ es fs. ParasDone (body_plan (body_of w records runs rest)) es fs o) s t) wide c.lay_out-done.ensures.told in
+    let fault : c.finished.result.fault ≡ o = c.finished.ensures.fault ∙ c.err.ensures.value ∙ fault_part c.lay_out-done.result in
     let laid : Laid P bs o = laid_from P s t bs o fresh goes c.finished.ensures.boxes in
     record {
       laid = subst (λ (Q : Plan). Laid Q bs c.finished.result.fault) (sym is) (subst (λ (x : Option Located). Laid P bs x) (sym fault) laid);
-      spare = spare_is t bs c.finished.result.spare.now c.args.list.now c.finished.ensures.boxes c.finished.ensures.spare (c.lay-out-done.ensures.spares.list.keeps ∙ ap (drop t.store.used) c.new-sheet.ensures.list);
+      spare = spare_is t bs c.finished.result.spare.now c.args.list.now c.finished.ensures.boxes c.finished.ensures.spare (c.lay_out-done.ensures.spares.list.keeps ∙ ap (drop t.store.used) c.new-sheet.ensures.list);
     }

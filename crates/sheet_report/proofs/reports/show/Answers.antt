@@ -6,6 +6,6 @@ use Rattle.sheet_report.proofs.reports.show.Goals as goal
 
 pub returns-in-Ok : goal.returns-in-Ok
 returns-in-Ok c =
-    let out = c.in-ok-out.out in
-    let made = c.in-ok-out.ensures in
-    shown_whole (printed c.args.boxes.now) c.as-mut-slice.result.now c.print.new.out out.items out.len c.in-Ok.field-0 c.as-mut-slice.ensures.len (no_longer_held out.len c.printed-length.result (length (printed c.args.boxes.now)) greatest made.len c.printed-length.ensures) c.in-Ok.ensures.answer c.in-Ok.ensures.kept
+    let out = c.in_ok-out.out in
+    let made = c.in_ok-out.ensures in
+    shown_whole (printed c.args.boxes.now) c.as_mut_slice.result.now c.print.new.out out.items out.len c.in-Ok.field-0 c.as_mut_slice.ensures.len (no_longer_held out.len c.printed_length.result (length (printed c.args.boxes.now)) greatest made.len c.printed_length.ensures) c.in-Ok.ensures.answer c.in-Ok.ensures.kept

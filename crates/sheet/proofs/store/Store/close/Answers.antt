@@ -1,7 +1,6 @@
-use Rattle.std.proofs.Common.{refl}
 use Rattle.sheet.specs.Stores.{view}
 use Rattle.sheet.proofs.Lines.{closed_at}
 use Rattle.sheet.proofs.store.Store.close.Goals as goal
 
-pub returns-in-Some : goal.returns-in-Some
-returns-in-Some c = record { named = refl; after = closed_at (view c.args.self.now) c.args.margins c.in-Some.words c.band-band.result c.in-Some.is c.band-band.ensures }
+pub returns-in-Some-clause-after : goal.returns-in-Some-clause-after
+returns-in-Some-clause-after c = closed_at (view c.args.self.now) c.args.margins c.in-Some.words c.band-band.result c.in-Some.is c.band-band.ensures

@@ -1,16 +1,13 @@
-use Rattle.std.proofs.Common.{◌≡◌, ℕ, ◌+◌, Ok, Err, sym, refl, ◌∙◌, subst, arith}
+use Rattle.std.proofs.Common.{◌+◌, Ok, Err, ◌∙◌, subst, arith}
 use Rattle.sheet.specs.Told.{WordTold}
 use Rattle.sheet.specs.Stores.{view, advances_in}
-use Rattle.sheet.proofs.Moves.{rest_none, rest_then}
-use Rattle.sheet.proofs.Flows.{flow_closed, flow_none, flow_then, flow_one, flow_ends, flow_stops}
+use Rattle.sheet.proofs.Moves.{rest_then}
+use Rattle.sheet.proofs.Flows.{flow_closed, flow_then, flow_one, flow_ends, flow_stops}
 use Rattle.sheet.proofs.Stretches.{word_at, no_word_at, past_all}
 use Rattle.sheet.proofs.store.Store.flow.Goals as goal
 
-pub returns-in_default : goal.returns-in_default
-returns-in_default c = record { fit = c.requires; named = refl; same = λ _ _. refl; rest = rest_none (view c.args.self.now); rows = refl; para = refl; account = flow_closed (view c.args.self.now) _ _ _ c.in_default.is }
-
-pub loop-i-init : goal.loop-i-init
-loop-i-init c = (omega arith, c.requires, refl, c.in-Some.is, refl, rest_none (view c.args.self.now), (λ _. refl), flow_none (view c.args.self.now) c.in-Some.para _ _ c.args.from)
+pub returns-in_default-clause-account : goal.returns-in_default-clause-account
+returns-in_default-clause-account c = flow_closed (view c.args.self.now) _ _ _ c.in_default.is
 
 pub unreachable-requires : goal.unreachable-requires
 unreachable-requires c = omega (arith, no_word_at c.args.text.now c.loop-i.i c.in_default-word.ensures.answer, c.count-count.ensures)
@@ -39,33 +36,14 @@ loop-i-preserved c =
       flow_then v w x c.in-Some.para t.space (advances_in t) c.args.from (i + 1) c.stretch-i.result (omega (arith, inv.0)) on here c.stretch-i.ensures.account,
     )
 
-pub returns-in-Err : goal.returns-in-Err
-returns-in-Err c =
+pub returns-in-Err-clause-account : goal.returns-in-Err-clause-account
+returns-in-Err-clause-account c =
     let t = c.args.text.now in
-    let v = view c.args.self.now in
     let s = view c.loop-i.self in
     let w = view c.word-in-loop-i.new.self in
-    let i = c.loop-i.i in
-    let inv = c.loop-i.invariant in
-    let at = word_at t i c.in-Some-word.word c.in-Some-word.ensures.answer in
+    let at = word_at t c.loop-i.i c.in-Some-word.word c.in-Some-word.ensures.answer in
     let told : WordTold c.in-Some.para t.space c.in-Some-word.word.advance (Err c.in-Err.e) s w = subst (λ sp. WordTold c.in-Some.para sp c.in-Some-word.word.advance (Err c.in-Err.e) s w) c.space.ensures c.in-Err.ensures.account in
-    record {
-      fit = c.word-in-loop-i.ensures.fit;
-      named = c.word-in-loop-i.ensures.named ∙ inv.2;
-      same = λ e _. c.in-Err.ensures.same ∙ inv.6 (omega (arith, inv.0, e));
-      rest = rest_then v s w inv.5 c.word-in-loop-i.ensures.rest;
-      rows = c.word-in-loop-i.ensures.rows ∙ inv.4;
-      para = c.word-in-loop-i.ensures.para ∙ inv.3 ∙ sym c.in-Some.is;
-      account = flow_stops v s w c.in-Some.para t.space _ (advances_in t) c.args.from i c.in-Err.e c.in-Some.is at.0 at.1 inv.7 told;
-    }
+    flow_stops (view c.args.self.now) s w c.in-Some.para t.space _ (advances_in t) c.args.from c.loop-i.i c.in-Err.e c.in-Some.is at.0 at.1 c.loop-i.invariant.7 told
 
-pub returns : goal.returns
-returns c = record {
-  fit = c.loop-i.invariant.1;
-  named = c.loop-i.invariant.2;
-  same = λ e s. absurd (let x : ◌≡◌ {A = ℕ} 0 1 = cc in omega arith);
-  rest = c.loop-i.invariant.5;
-  rows = c.loop-i.invariant.4;
-  para = c.loop-i.invariant.3 ∙ sym c.in-Some.is;
-  account = flow_ends (view c.args.self.now) (view c.loop-i.self) c.in-Some.para _ (advances_in c.args.text.now) c.args.from c.loop-i.i c.in-Some.is (past_all c.args.text.now c.loop-i.i (omega (arith, c.count-count.ensures))) c.loop-i.invariant.7;
-}
+pub returns-clause-account : goal.returns-clause-account
+returns-clause-account c = flow_ends (view c.args.self.now) (view c.loop-i.self) c.in-Some.para _ (advances_in c.args.text.now) c.args.from c.loop-i.i c.in-Some.is (past_all c.args.text.now c.loop-i.i (omega (arith, c.count-count.ensures))) c.loop-i.invariant.7

@@ -2,5 +2,5 @@ use Rattle.std.proofs.Common.{length, ap, arith}
 use Rattle.lexer.proofs.Counts.{length_file_lines}
 use Rattle.sheet_file.proofs.cursors.Cursor.new.Goals as goal
 
-pub invariant-of-result : goal.invariant-of-result
-invariant-of-result c = (let few = length_file_lines c.args.file.now in let is = ap length c.new.ensures in omega arith, tt)
+pub invariant_of-result : goal.invariant_of-result
+invariant_of-result c = record { few = omega (arith, length_file_lines c.args.file.now, ap length c.new.ensures) }

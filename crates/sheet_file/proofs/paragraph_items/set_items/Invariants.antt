@@ -6,7 +6,7 @@ use Rattle.sheet_file.specs.Desks.{setting}
 use Rattle.sheet_file.specs.Done.{Done, Goes}
 use Rattle.sheet_file.specs.Plans.{items_plan}
 use Rattle.sheet_file.specs.Turns.{Leading, Forward}
-use Rattle.sheet_file.proofs.items.set_items.Given as goal
+use Rattle.sheet_file.proofs.paragraph_items.set_items.Given as goal
 
 abbrev pub invariant-loop-set : goal.invariant-loop-set
 invariant-loop-set l =

@@ -9,30 +9,30 @@ use Rattle.sheet_file.specs.Plans.{items_plan}
 use Rattle.sheet_file.specs.Turns.{Turned, Forward}
 use Rattle.sheet_file.proofs.Going.{turns_none, turns_more, turns_stop, turns_all, forward_none, forward_then, but_faults}
 use Rattle.sheet_file.proofs.ItemByItem.{items_set}
-use Rattle.sheet_file.proofs.items.set_items.Goals as goal
+use Rattle.sheet_file.proofs.paragraph_items.set_items.Goals as goal
 
 pub loop-set-init : goal.loop-set-init
 loop-set-init c =
     let S = setting c.args.desk.now (length c.args.words.now) (length c.args.runs.now) in
     (refl, spares_none c.args.sheet.now, forward_none c.args.cursor.now, turns_none Done (items_plan S) c.args.count c.args.cursor.now c.args.sheet.now)
 
-pub returns-in-err-next-item : goal.returns-in-err-next-item
-returns-in-err-next-item c =
+pub returns-in_err-next_item : goal.returns-in_err-next_item
+returns-in_err-next_item c =
     let S = setting c.args.desk.now (length c.args.words.now) (length c.args.runs.now) in
     let s = c.args.sheet.now in
     let t = c.loop-set.sheet in
-    let u = c.next-item.new.sheet in
+    let u = c.next_item.new.sheet in
     let from = c.loop-set.cursor in
-    let to = c.next-item.new.cursor in
+    let to = c.next_item.new.cursor in
     let I = items_plan S c.args.count (number c.args.cursor.now) (ahead c.args.cursor.now) in
-    let x = c.in-err-next-item.field-0.0 in
-    let p = err_from_is_err_and c.from-residual.result c.from-residual.ensures.1 in
-    let is : c.from-residual.result ≡ Err x = p.1 ∙ ap Err p.2 in
-    let told : Turned Done (items_plan S) from (Err x) to t u = subst₂ (λ (j k : ℕ). Turned Done (items_plan (setting c.args.desk.now j k)) from (Err x) to t u) c.loop-set.auto.words c.loop-set.auto.runs c.in-err-next-item.ensures.told in
+    let x = c.in_err-next_item.field-0.0 in
+    let p = err_from_is_err_and c.from_residual.result c.from_residual.ensures.1 in
+    let is : c.from_residual.result ≡ Err x = p.1 ∙ ap Err p.2 in
+    let told : Turned Done (items_plan S) from (Err x) to t u = subst₂ (λ (j k : ℕ). Turned Done (items_plan (setting c.args.desk.now j k)) from (Err x) to t u) c.loop-set.auto.words c.loop-set.auto.runs c.in_err-next_item.ensures.told in
     record {
-      number = c.next-item.ensures.number ∙ c.loop-set.invariant.0;
-      spares = spares_then s t u c.loop-set.invariant.1 c.next-item.ensures.spares;
-      forward = but_faults _ c.from-residual.result x is;
+      number = c.next_item.ensures.number ∙ c.loop-set.invariant.0;
+      spares = spares_then s t u c.loop-set.invariant.1 c.next_item.ensures.spares;
+      forward = but_faults _ c.from_residual.result x is;
       told = subst (λ (r : Result (Unit {0}) Located). Goes (λ es fs. Done I es fs (fault_in r)) s u) (sym is) (turns_stop Done (items_plan S) I c.args.count c.loop-set.set from to s t u c.loop-set.invariant.3 x c.loop-set-test.true told);
     }
 
@@ -41,14 +41,14 @@ loop-set-preserved c =
     let S = setting c.args.desk.now (length c.args.words.now) (length c.args.runs.now) in
     let s = c.args.sheet.now in
     let t = c.loop-set.sheet in
-    let u = c.next-item.new.sheet in
+    let u = c.next_item.new.sheet in
     let from = c.loop-set.cursor in
-    let to = c.next-item.new.cursor in
+    let to = c.next_item.new.cursor in
     let I = items_plan S c.args.count (number c.args.cursor.now) (ahead c.args.cursor.now) in
-    let told : Turned Done (items_plan S) from (Ok tt) to t u = subst₂ (λ (j k : ℕ). Turned Done (items_plan (setting c.args.desk.now j k)) from (Ok tt) to t u) c.loop-set.auto.words c.loop-set.auto.runs c.in-ok-next-item.ensures.told in (
-      c.next-item.ensures.number ∙ c.loop-set.invariant.0,
-      spares_then s t u c.loop-set.invariant.1 c.next-item.ensures.spares,
-      forward_then c.loop-set.set 1 c.args.cursor.now from to c.loop-set.invariant.2 c.in-ok-next-item.ensures.forward,
+    let told : Turned Done (items_plan S) from (Ok tt) to t u = subst₂ (λ (j k : ℕ). Turned Done (items_plan (setting c.args.desk.now j k)) from (Ok tt) to t u) c.loop-set.auto.words c.loop-set.auto.runs c.in_ok-next_item.ensures.told in (
+      c.next_item.ensures.number ∙ c.loop-set.invariant.0,
+      spares_then s t u c.loop-set.invariant.1 c.next_item.ensures.spares,
+      forward_then c.loop-set.set 1 c.args.cursor.now from to c.loop-set.invariant.2 c.in_ok-next_item.ensures.forward,
       turns_more Done (items_plan S) I c.args.count c.loop-set.set from to s t u c.loop-set.invariant.3 tt c.loop-set-test.true told,
     )
 
