@@ -1,5 +1,5 @@
 -- Bytes printed into memory that is just as long. Assumes nothing.
-use Rattle.std.proofs.Common.{◌≡◌, ℕ, ◌≤◌, min, Bool, true, false, cond, leb, List, [], ◌∷◌, ◌++◌, length, take, drop, Ok, Err, Result, sym, refl, ap, ◌∙◌, subst, append-nil, arith, leb-true}
+use Rattle.std.proofs.Common.{◌≡◌, ℕ, ◌≤◌, min, Bool, true, false, cond, leb, List, [], ◌++◌, length, take, drop, Ok, Err, Result, refl, ap, ◌∙◌, append-nil, arith, le-leb, leb-true}
 use lib.Seq.{take-append-le}
 use Rattle.std.proofs.lemmas.List.{drop_all, take_all}
 use Rattle.printing.specs.declared.outputs.ShortOutput.{ShortOutput}
@@ -19,6 +19,17 @@ answered b m = cond b (Ok m) (Err (record {}))
 fit : (b : Bool) (n m : ℕ) → Ok n ≡ answered b m → b ≡ true
 fit true n m h = refl
 fit false n m h = let z : ◌≡◌ {A = ℕ} 0 1 = cc in absurd (omega arith)
+
+unfit : (b : Bool) (m : ℕ) (e : ShortOutput) → Err e ≡ answered b m → b ≡ false
+unfit true m e h = let z : ◌≡◌ {A = ℕ} 0 1 = cc in absurd (omega arith)
+unfit false m e h = refl
+
+-- memory that is long enough is not refused
+pub never_short : (bs xs : List ℕ) (e : ShortOutput) → length bs ≤ length xs → Err e ≡ print_answer bs xs → ⊥
+never_short bs xs e le h =
+    let no : leb (length bs) (length xs) ≡ false = unfit (fits bs xs) (length bs) e h in
+    let yes : leb (length bs) (length xs) ≡ true = le-leb (length bs) (length xs) le in
+    let z : ◌≡◌ {A = Bool} true false = cc in cc
 
 module _ (bs xs ys items : List ℕ) (len n : ℕ) (long : length xs ≡ len) (enough : len ≤ length bs) (answer : Ok n ≡ print_answer bs xs) (kept : ys ≡ print_kept bs xs) where
   into : fits bs xs ≡ true

@@ -53,7 +53,7 @@ fn show(heap: Global, boxes: &[BoxRecord]) -> Result<Vec<u8>, AllocError>
     let mut out = vec![in heap; 0; printed_length(boxes)]?;
     match print(boxes, out.as_mut_slice()) {
         Ok(_) => Ok(out),
-        Err(_) => Err(AllocError),
+        Err(_) => unreachable(),
     }
 }
 
@@ -64,7 +64,7 @@ fn show_fault(heap: Global, fault: FaultLine) -> Result<Vec<u8>, AllocError>
     let mut out = vec![in heap; 0; fault_length(fault)]?;
     match print_fault(fault, out.as_mut_slice()) {
         Ok(_) => Ok(out),
-        Err(_) => Err(AllocError),
+        Err(_) => unreachable(),
     }
 }
 
