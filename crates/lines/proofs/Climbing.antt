@@ -1,5 +1,5 @@
 -- The steps of a flight, as a loop takes them. Assumes nothing.
-use Rattle.std.proofs.Common.{◌≡◌, ℕ, suc, ◌+◌, ◌-◌, ◌<◌, List, [], ◌∷◌, ◌++◌, length, take as front, set, Ok, Err, Result, sym, ap, ◌∙◌, arith, length-set}
+use Rattle.std.proofs.Common.{◌≡◌, ℕ, suc, ◌+◌, ◌-◌, ◌<◌, List, [], ◌∷◌, ◌++◌, length, take as front, set, Ok, Result, sym, ap, ◌∙◌, arith, length-set}
 use Rattle.std.proofs.lemmas.List.{take_more_set}
 use Rattle.lexer.specs.declared.faults.Fault.{Fault}
 use Rattle.lexer.specs.declared.fields.Fields.{Fields}

@@ -1,7 +1,7 @@
 -- Advances worked by hand, by the house table. Assumes nothing.
 --     Example          at this size, this byte has this advance
 --     examples         one for each part of the rule
---     ExamplesStand   the definitions give these advances
+--     ExamplesStand    the definitions give these advances
 use Rattle.std.specs.Prelude.{◌≡◌, ℕ, List, [], ◌∷◌, map}
 use Rattle.metrics.specs.House.{house_widths}
 use Rattle.metrics.specs.Width.{table_advance}

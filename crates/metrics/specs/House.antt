@@ -3,7 +3,7 @@
 --     among b bs      b is one of bs
 --     house_width b   the width of byte b
 --     house_widths    the widths of the 95 printable bytes, in their order
---     HouseByRule   the house table gives each printable byte its width, and any other the space's
+--     HouseByRule     the house table gives each printable byte its width, and any other the space's
 use Rattle.std.specs.Prelude.{◌≡◌, ℕ, Bool, false, cond, ◌||◌, List, [], ◌∷◌, map, codes, ◌==◌}
 use Rattle.std.specs.List.{range_with_len}
 use Rattle.metrics.specs.Advance.{Printable}

@@ -2,7 +2,7 @@
 --     rounded x             the units that x thousandths come to
 --     gap x n               how many thousandths lie between x thousandths and n units
 --     Nearest x n           no number of units is nearer to x than n, and of two as near n is the upper
---     RoundingIsNearest   rounded x is nearest to x, and nothing else is
+--     RoundingIsNearest     rounded x is nearest to x, and nothing else is
 use Rattle.std.specs.Prelude.{◌≡◌, ℕ, ◌+◌, ◌-◌, ◌*◌, ◌/◌, ◌≤◌}
 
 abbrev pub rounded : ℕ → ℕ

@@ -13,3 +13,6 @@ rounded_small w q wide large =
 pub table_small : (ws : List ℕ) (q b : ℕ) → ((k : ℕ) → k < 95 → FitWidth (slice_index ws k)) → FitSize q → table_advance ws q b ≤ 255
 table_small ws q b wide large =
     let small = rounded_small (slice_index ws (place_of b)) q (wide (place_of b) (place_inside b)) large in omega arith
+
+pub table_some : (ws : List ℕ) (q b : ℕ) → 1 ≤ table_advance ws q b
+table_some ws q b = omega arith

@@ -1,4 +1,5 @@
 // Worked examples of sheets, run through the public functions of the libraries. There is nothing but tests here.
+#![tactic(auto)]
 
 // Three calls on a sheet, and the answer to the last.
 #[cfg(test)]

@@ -1,7 +1,7 @@
 -- A run of words on one line. Assumes nothing.
 --     largest            what the two sums of a run are held at: the largest number of 32 bits
 --     held_sum a b       the sum of a and b, held at that
---     SumsAreHeld      of numbers of 32 bits it is the sum, or the largest of them where the sum is past it
+--     SumsAreHeld        of numbers of 32 bits it is the sum, or the largest of them where the sum is past it
 --     no_run             the run of no words
 --     longer x y         the words of x and then those of y
 --     width_of x space   the width of x on one line, with a space between each two of its words

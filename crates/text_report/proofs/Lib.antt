@@ -3,5 +3,4 @@ pub mod Outcomes
 pub mod ManyTexts
 pub mod Memory
 pub mod OneText
-pub mod Printed
 pub mod Widths

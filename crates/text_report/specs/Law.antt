@@ -1,10 +1,10 @@
 -- What holds of every file. Assumes nothing.
 --     no_line, no_measure           what is taken where a list has nothing
---     AllMeasured adv n ls ms      each of the lines ls, from line n on, measures to the text of ms in its place
---     FirstFault adv n ls x        x is the fault of one of these lines, and each line before it is measured
+--     AllMeasured adv n ls ms       each of the lines ls, from line n on, measures to the text of ms in its place
+--     FirstFault adv n ls x         x is the fault of one of these lines, and each line before it is measured
 --     Reports ls out                out is what is to be printed of a file of the lines ls
---     ReportsStand                 so is the report of every file, and nothing else
---     MemorySuffices               no text has too many words for the memory that it is measured in
+--     ReportsStand                  so is the report of every file, and nothing else
+--     MemorySuffices                no text has too many words for the memory that it is measured in
 use Rattle.std.specs.Prelude.{◌≡◌, ℕ, ◌+◌, ◌-◌, ◌<◌, ◌≤◌, true, false, List, [], ◌∷◌, length, is_ok, Some, Ok, Err, slice_index_or}
 use Rattle.lexer.specs.Lines.{FileLine, file_line, file_lines}
 use Rattle.text.specs.Fault.{text_fault}

@@ -1,8 +1,7 @@
 // What a table answers as a metrics.
 ghost use Rattle.std.specs.Prelude.{◌≡◌, ◌<◌};
 ghost use Rattle.metrics.specs.Width.{FitWidth, FitSize, place_of, scaled, table_advance};
-ghost use Rattle.std.proofs.Common.{arith};
-ghost use Rattle.metrics.specs.Scaling.{table_small};
+ghost use Rattle.metrics.specs.Scaling.{table_some, table_small};
 
 use crate::advances::Metrics;
 use crate::rounding::rounded;
@@ -34,7 +33,7 @@ impl Metrics for Table {
 
     ghost ranges = { λ m.
         record {
-          least = λ b _. omega arith;
+          least = λ b _. table_some m.widths m.size b;
           most = λ b _. table_small m.widths m.size b m.wide m.large;
         } };
 
