@@ -4,7 +4,7 @@ use Rattle.rows.specs.Fit.{Stays}
 use Rattle.rows.specs.declared.Rows.{Rows}
 use Rattle.sheet.specs.declared.sheet.Sheet.{Sheet}
 use Rattle.sheet.specs.Sheets.{fields}
-use Rattle.sheet.proofs.Moves.{rest_none, rest_then}
+use Rattle.sheet.proofs.Moves.{rest_then}
 use Rattle.items.specs.Spares.{Spares}
 
 pub stays_none : (s : Rows) → Stays s s
@@ -23,9 +23,6 @@ stays_then s t u a b = record {
     rest = subst (λ (n : ℕ). drop (2 * n) u.tree.cells.now ≡ drop (2 * n) t.tree.cells.now) a.tree.size b.tree.rest ∙ a.tree.rest;
   };
 }
-
-pub spares_none : (s : Sheet) → Spares s s
-spares_none s = record { list = rest_none (fields s); rows = stays_none s.store.rows }
 
 pub spares_then : (s t u : Sheet) → Spares s t → Spares t u → Spares s u
 spares_then s t u a b = record { list = rest_then (fields s) (fields t) (fields u) a.list b.list; rows = stays_then s.store.rows t.store.rows u.store.rows a.rows b.rows }

@@ -7,7 +7,7 @@ use Rattle.metrics.specs.Making.{MakesTable, MakesHouse}
 use Rattle.metrics.specs.Width.{FitWidth, FitWidths}
 use Rattle.metrics.specs.declared.Unfit.{Unfit}
 use Rattle.metrics.specs.declared.tables.Table.{Table}
-use Rattle.metrics.specs.Places.{place_own, place_other}
+use Rattle.metrics.proofs.Places.{place_own, place_other}
 
 house_long : length house_widths ≡ 95
 unfolding house_widths

@@ -1,2 +1,3 @@
 pub mod HouseTable
 pub mod Nearest
+pub mod Places

@@ -1,5 +1,5 @@
 -- What a panel takes of a row, and of a line's band. Assumes nothing.
-use Rattle.std.proofs.Common.{◌≡◌, ℕ, zero, suc, ◌+◌, ◌-◌, ◌<◌, ◌≤◌, max, Bool, true, false, cond, ltb, leb, List, ◌∷◌, Some, sym, refl, ap, ◌∙◌, subst, ⊎_elim, add-one, arith}
+use Rattle.std.proofs.Common.{◌≡◌, ℕ, zero, suc, ◌+◌, ◌-◌, ◌<◌, ◌≤◌, Bool, true, false, cond, ltb, leb, List, ◌∷◌, Some, sym, refl, ap, ◌∙◌, subst, ⊎_elim, arith}
 use Rattle.std.proofs.lemmas.Bool.{ltb-true, lt-ltb, leb-true, le-leb, cases_lt, cases_eq}
 use Rattle.shapes.specs.declared.sides.Side.{Side}
 use Rattle.shapes.specs.declared.sides.Side.TheVariants.{Left, Right}
@@ -51,9 +51,6 @@ pub area_moved : (p q : Placed) (k j : ℕ) → p.form ≡ q.form → p.y ≤ k 
 area_moved p q k j e l m is = let a = area_is p k l in let b = area_is q j m in cc
 
 -- the widest of the first rows
-pub widest_more : (f : ℕ → ℕ) (n : ℕ) → widest f (n + 1) ≡ max (widest f n) (f n)
-widest_more f n = rw add-one
-
 pub widest_within : (f : ℕ → ℕ) (w n : ℕ) → ((k : ℕ) → f k ≤ w) → widest f n ≤ w
 widest_within f w zero h = omega arith
 widest_within f w (suc n) h = let a = widest_within f w n h in let b = h n in omega arith

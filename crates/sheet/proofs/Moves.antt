@@ -1,5 +1,5 @@
 -- One call more, as one step more of the account. Assumes nothing.
-use Rattle.std.proofs.Common.{◌≡◌, ℕ, ◌+◌, ◌-◌, ◌<◌, ◌≤◌, Bool, leb, List, [], ◌∷◌, ◌++◌, length, drop, set, is_some, sym, refl, ap, ◌∙◌, arith, drop-drop}
+use Rattle.std.proofs.Common.{◌≡◌, ℕ, ◌+◌, ◌-◌, ◌<◌, ◌≤◌, Bool, leb, List, [], ◌∷◌, ◌++◌, length, drop, set, is_some, sym, ap, ◌∙◌, arith, drop-drop}
 use mathlib.Core.List.{reverse-cons}
 use mathlib.Core.Logic.{∥∥₁_map}
 use Rattle.std.proofs.lemmas.List.{take_more_set}
@@ -40,9 +40,6 @@ drop_on : (m n : ℕ) (xs ys : List BoxRecord) → m ≤ n → drop m xs ≡ dro
 drop_on m n xs ys le e =
     let is : n ≡ m + (n - m) = omega arith in
     ap (λ k. drop k xs) is ∙ sym (drop-drop (n - m) m xs) ∙ ap (drop (n - m)) e ∙ drop-drop (n - m) m ys ∙ ap (λ k. drop k ys) (sym is)
-
-pub rest_none : (v : View) → Rest v v
-rest_none v = record { grows = omega arith; keeps = refl }
 
 pub rest_then : (v s w : View) → Rest v s → Rest s w → Rest v w
 rest_then v s w a b = let g = a.grows in let h = b.grows in record { grows = omega arith; keeps = b.keeps ∙ drop_on s.used w.used s.recs v.recs h a.keeps }

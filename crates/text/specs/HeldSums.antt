@@ -3,7 +3,7 @@ use Rattle.std.proofs.Common.{⊎_elim, sym, ap, ◌∙◌, mul-le-mul_left, ari
 use Rattle.std.specs.Prelude.{◌≡◌, ℕ, ◌+◌, ◌-◌, ◌<◌, ◌≤◌, min, max}
 use Rattle.segment_tree.specs.Joins.{Laws}
 use Rattle.std.proofs.lemmas.Bool.{cases_lt, leb-true, le-leb}
-use Rattle.text.specs.Run.{largest, held_sum, SumsAreHeld, no_run, longer, width_of, has_room}
+use Rattle.text.specs.Run.{largest, held_sum, no_run, longer, width_of, has_room}
 use Rattle.text.specs.declared.runs.Run.{Run}
 
 -- the sum held at `cap`; it is shut, so that each step below sees one of its laws and not its text
@@ -58,9 +58,6 @@ module _ (cap : ℕ) where
 sum_assoc : (a b c : ℕ) → held_sum (held_sum a b) c ≡ held_sum a (held_sum b c)
 unfolding held
 sum_assoc a b c = held_assoc largest a b c
-
-pub sums_are_held : SumsAreHeld
-sums_are_held a b h k = omega arith
 
 alike : (x y : Run) → x.advance ≡ y.advance → x.count ≡ y.count → x ≡ y
 alike x y p q = λ j. record { advance = p j; count = q j }

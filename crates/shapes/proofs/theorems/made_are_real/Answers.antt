@@ -1,4 +1,4 @@
-use Rattle.shapes.specs.Reals.{made_are_real}
+use Rattle.shapes.proofs.Reals.{made_are_real}
 use Rattle.shapes.proofs.theorems.made_are_real.Goals as goal
 
 pub returns : goal.returns

@@ -1,0 +1,2 @@
+pub mod Staircases
+pub mod Reals
