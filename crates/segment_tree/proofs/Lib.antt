@@ -3,4 +3,4 @@ pub mod Spans
 pub mod Sums
 pub mod Climbs
 pub mod Doubling
-pub mod Leaves
+pub mod LeafLists

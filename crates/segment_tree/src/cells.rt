@@ -43,7 +43,7 @@ pub(crate) fn put<E: Element>(cells: &mut [E], size: usize, i: usize, e: E)
     while node > 1 {
         node /= 2;
         let joined = cells[2 * node].join(cells[2 * node + 1]);
-        if joined.same(cells[node]) {
+        if joined == cells[node] {
             return;
         }
         cells[node] = joined;
@@ -61,13 +61,11 @@ pub(crate) fn join_all<E: Element>(cells: &mut [E], size: usize)
     }
 }
 
-// Makes the first n cells empty.
-pub(crate) fn clear<E: Element>(cells: &mut [E], n: usize)
-    requires { n ≤ length cells.old }
-    ensures empty { (k : ℕ) → k < n → slice_index_or cells.new k E.none ≡ E.none }
-    ensures rest { drop n cells.new ≡ drop n cells.old }
+// Makes every cell empty.
+pub(crate) fn clear<E: Element>(cells: &mut [E])
+    ensures { (k : ℕ) → k < length cells.old → slice_index_or cells.new k E.none ≡ E.none }
 {
-    for k in 0..n {
-        cells[k] = E::empty();
+    for cell in cells.iter_mut() {
+        *cell = E::empty();
     }
 }

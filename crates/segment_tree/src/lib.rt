@@ -4,7 +4,7 @@
 
 // What an element is: how two are joined, and when one is within a limit.
 mod element;
-// The tree and its methods.
+// The tree and its leaves, with their methods.
 mod segment;
 // How many leaves a tree has, and so how many cells it takes.
 mod powers;
@@ -16,4 +16,5 @@ mod runs;
 pub use element::Element;
 pub use powers::{enough, leaf_count_is_least};
 pub use runs::one_longest_run;
-pub use segment::Tree;
+pub use segment::leaves::Leaves;
+pub use segment::{NoElement, Tree};
