@@ -4,3 +4,4 @@ pub mod Sums
 pub mod Climbs
 pub mod Doubling
 pub mod LeafLists
+pub mod Sound

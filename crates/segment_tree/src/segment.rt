@@ -8,6 +8,7 @@ use crate::Element;
 
 pub mod leaves;
 mod methods;
+pub mod runs;
 
 #[derive(Drop)]
 pub struct Tree<'a, E: Element> {

@@ -1,12 +1,12 @@
 // What a tree does.
-ghost use Rattle.std.specs.Prelude.{◌≡◌, ◌*◌, ◌<◌, ◌≤◌, length, MatchOption, is_ok, nat_lt, slice_set};
+ghost use Rattle.std.specs.Prelude.{◌≡◌, ◌+◌, ◌*◌, ◌<◌, ◌≤◌, length, MatchOption, is_ok, nat_lt, slice_set};
 ghost use Rattle.segment_tree.specs.Joins.{fold_of};
 ghost use Rattle.segment_tree.specs.LeafCount.{leaf_count};
 ghost use Rattle.segment_tree.specs.LongestRun.{Longest};
 
 use super::leaves::Leaves;
 use super::{NoElement, Tree};
-use crate::{Element, cells as work, runs};
+use crate::{Element, cells as work};
 
 impl<'a, E: Element> Tree<'a, E> {
     ghost use Rattle.segment_tree.specs.Trees.{elements, Kept, Fresh, Vacant, Parted};
@@ -70,7 +70,32 @@ impl<'a, E: Element> Tree<'a, E> {
         if a >= end {
             return E::empty();
         }
-        work::fold(self.cells, self.size, a, end)
+        self.join_between(a, end)
+    }
+
+    // The join of the leaves a to b - 1: of the nodes at the two ends that no wider node takes in, level by level.
+    // It walks up the tree by hand, from both ends at once.
+    fn join_between(&self, a: usize, b: usize) -> E
+        requires order { (a < b) × (b ≤ self.now.size) }
+        ensures { result ≡ fold_of E.none E.op self.now.cells.now (self.now.size + a) (self.now.size + b) }
+    {
+        let mut low = self.size + a;
+        let mut high = self.size + b;
+        let mut front = E::empty();
+        let mut back = E::empty();
+        while low < high {
+            if low % 2 == 1 {
+                front = front.join(self.cells[low]);
+                low += 1;
+            }
+            if high % 2 == 1 {
+                high -= 1;
+                back = self.cells[high].join(back);
+            }
+            low /= 2;
+            high /= 2;
+        }
+        front.join(back)
     }
 
     // The greatest b up to which the elements from a on join to what is within the limit, or a where there is none.
@@ -80,7 +105,6 @@ impl<'a, E: Element> Tree<'a, E> {
         if a > self.count || !E::empty().within(limit) {
             return a;
         }
-        let start = runs::climb(self.cells, self.size, self.count, a, limit);
-        runs::descend(self.cells, self.size, self.count, a, limit, start)
+        self.descend(a, limit, self.climb(a, limit))
     }
 }

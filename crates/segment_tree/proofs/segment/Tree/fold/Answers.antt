@@ -13,4 +13,4 @@ returns g c =
     let e = c.min-end.ensures in
     let cut = part_min (elements t) c.args.a c.args.b t.count len in
     let down = part_leaves t.size t.count t.cells.now c.args.a (min c.args.b t.count) (omega arith) in
-    c.fold.ensures ∙ ap (λ x. fold_of m.none m.op t.cells.now (t.size + c.args.a) (t.size + x)) e ∙ sym (ap (total m.none m.op) (cut ∙ down))
+    c.join_between.ensures ∙ ap (λ x. fold_of m.none m.op t.cells.now (t.size + c.args.a) (t.size + x)) e ∙ sym (ap (total m.none m.op) (cut ∙ down))
