@@ -17,7 +17,8 @@ pub struct Ground {
     pub current: Option<Line>,
 }
 
-// The greatest extent of a shape's first n rows.
+// The greatest extent of a shape's first n rows. By a `for`, whose invariant is the definition of `widest` itself; the
+// greatest item of a chain says less directly that it is that.
 fn widest_of<S: Shape>(shape: &S, n: u32) -> u32
     ensures { result ≡ widest (S.model shape.now).extent n }
 {
