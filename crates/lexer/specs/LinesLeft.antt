@@ -11,7 +11,7 @@ abbrev pub line_of : Line → FileLine
 line_of l = file_line l.bytes.now l.ended
 
 abbrev pub left : Lines → List FileLine
-left s = file_lines (drop s.place s.file.now)
+left s = file_lines s.rest.now
 
 abbrev pub Next : List FileLine → Option Line → List FileLine → Type 0
 Next before None after = (before ≡ []) × (after ≡ [])

@@ -62,12 +62,7 @@ impl Kind for Within {
     ghost fails = { λ k. (number_within k.low k.high).fails };
 
     fn value(&self, bytes: &[u8]) -> Option<u16> {
-        let value = number(bytes)?;
-        if self.low <= value && value <= self.high {
-            Some(value)
-        } else {
-            None
-        }
+        number(bytes).filter(|value| self.low <= *value && *value <= self.high)
     }
 
     fn cause(&self) -> Cause {
@@ -89,11 +84,7 @@ impl<'w> Kind for Word<'w> {
     ghost fails = { λ k. (word k.text.now).fails };
 
     fn value(&self, bytes: &[u8]) -> Option<()> {
-        if spells(bytes, self.text) {
-            Some(())
-        } else {
-            None
-        }
+        spells(bytes, self.text).then_some(())
     }
 
     fn cause(&self) -> Cause {
