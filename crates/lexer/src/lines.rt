@@ -1,9 +1,11 @@
 // The lines of a file, one after another.
 ghost use Rattle.std.specs.Prelude.{◌≡◌};
 ghost use Rattle.std.specs.Iterator.{YieldsFirstBy, item_count};
+ghost use Rattle.lexer.specs.Forms.{closing};
 ghost use Rattle.lexer.specs.Lines.{file_lines, LinesStand};
 ghost use Rattle.lexer.specs.LinesLeft.{left, line_of};
 
+use crate::faults::{Cause, Fault};
 use crate::marks::{Mark, run};
 
 // A line without the byte that ends it, and whether that byte is there.
@@ -11,6 +13,21 @@ use crate::marks::{Mark, run};
 pub struct Line<'a> {
     pub bytes: &'a [u8],
     pub ended: bool,
+}
+
+impl<'a> Line<'a> {
+    // The line has its line end, else the fault lies at the line's length.
+    pub fn closed(self) -> Result<(), Fault>
+        ensures { result ≡ closing self.entry.ended self.entry.bytes.now }
+    {
+        if !self.ended {
+            return Err(Fault {
+                cause: Cause::Field,
+                place: self.bytes.len(),
+            });
+        }
+        Ok(())
+    }
 }
 
 // The lines of a file from a place on, as the bytes of the file from there.

@@ -25,13 +25,11 @@ fn digits(bytes: &[u8]) -> Option<u32>
 pub fn number(bytes: &[u8]) -> Option<u16>
     ensures { result ≡ numeral bytes.now }
 {
-    if bytes.is_empty() || bytes.len() > MOST_DIGITS {
-        return None;
+    match bytes {
+        [] | [b'0', _, ..] => None,
+        _ if bytes.len() > MOST_DIGITS => None,
+        _ => u16::try_from(digits(bytes)?).ok(),
     }
-    if bytes[0] == b'0' && bytes.len() > 1 {
-        return None;
-    }
-    u16::try_from(digits(bytes)?).ok()
 }
 
 // A field writes a number exactly where it is what is printed of one up to 65,535.
