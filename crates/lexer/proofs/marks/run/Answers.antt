@@ -4,7 +4,6 @@ use Rattle.std.specs.List.{position_or_len}
 use Rattle.std.proofs.lemmas.Iterator.{YieldsList-from_slice}
 use Rattle.std.proofs.lemmas.Iterator.Search.{position_from_yields_List}
 use Rattle.std.proofs.lemmas.List.Sums.{prefix_len-le-length}
-use Rattle.std.proofs.lemmas.Grind.{common_steps}
 use Rattle.lexer.specs.Bytes.{other_than}
 use Rattle.lexer.specs.Marks.{code}
 use Rattle.lexer.proofs.marks.run.Goals as goal

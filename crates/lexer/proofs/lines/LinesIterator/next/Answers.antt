@@ -1,4 +1,4 @@
-use Rattle.std.proofs.Common.{◌≡◌, ◌+◌, ltb, length, ◌∷◌, drop, sym, refl, ap, ◌∙◌, arith, rules}
+use Rattle.std.proofs.Common.{◌≡◌, ◌+◌, ltb, length, ◌∷◌, drop, sym, ap, ◌∙◌, arith, rules}
 use Rattle.std.proofs.lemmas.List.{take_rest, drop-drop}
 use Rattle.std.proofs.lemmas.Grind.{common_steps}
 use Rattle.lexer.specs.Lines.{file_line, file_lines}
@@ -11,7 +11,7 @@ returns-clause-steps c =
     let bs = c.args.self.now.rest.now in
     let n = c.run-length.result in
     let behind : c.if-behind-lt1.self.now ≡ drop (n + 1) bs =
-        elim c.if-behind-lt1.branch [ in-empty w ↦ grind (arith, common_steps) | in-len1-up w ↦ ap (λ r. r.now) w.self-is ∙ take_rest c.split_at.result.1.now 1 ∙ ap (drop 1) c.split_at.ensures.back ∙ drop-drop 1 n bs ] in
+    elim c.if-behind-lt1.branch [ in-empty w ↦ grind (arith, common_steps) | in-len1-up w ↦ ap (λ r. r.now) w.self-is ∙ take_rest c.split_at.result.1.now 1 ∙ ap (drop 1) c.split_at.ensures.back ∙ drop-drop 1 n bs ] in
     let e = first_line bs c.if-behind-lt1.self.now n (grind (arith, common_steps)) c.run-length.ensures.value behind in
     e ∙ ap (λ b. file_line b (ltb n (length bs)) ∷ file_lines c.if-behind-lt1.self.now) (sym c.split_at.ensures.front)
 
