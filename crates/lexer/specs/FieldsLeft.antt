@@ -4,7 +4,6 @@
 --     read_at s w c      its worth by w, and c the cause where it has none
 --     ended_at s         that the line has ended there
 --     Stepped s t        t is the cursor s, moved past the field at hand
---     Gives s r t        r shows the field at hand, and t is moved past it
 use Rattle.std.specs.Prelude.{◌≡◌, ℕ, List, Some, None, Option, Result}
 use Rattle.std.specs.Borrow.{Bor}
 use Rattle.lexer.specs.declared.faults.Cause.{Cause}
@@ -29,7 +28,3 @@ ended_at s = ending s.line.ended s.line.bytes.now s.place
 pub record Stepped (s t : Fields) : Type 0 where
   pub line : t.line ≡ s.line
   pub place : t.place ≡ next s.line.bytes.now s.place
-
-pub record Gives (s : Fields) (r : Option (Bor (List ℕ))) (t : Fields) : Type 0 where
-  pub value : seen r ≡ field_at s
-  pub stepped : Stepped s t

@@ -1,7 +1,6 @@
 // The fields of a line, one after another.
-ghost use Rattle.std.specs.Prelude.{◌≡◌, ◌+◌, ◌-◌, length};
-ghost use Rattle.std.specs.Iterator.{at_most};
-ghost use Rattle.lexer.specs.FieldsLeft.{read_at, ended_at, Stepped, Gives};
+ghost use Rattle.std.specs.Prelude.{◌≡◌};
+ghost use Rattle.lexer.specs.FieldsLeft.{seen, field_at, read_at, ended_at, Stepped};
 ghost use Rattle.lexer.specs.Forms.{fault as refusal};
 
 use crate::faults::{Cause, Fault};
@@ -36,6 +35,22 @@ impl<'a> Fields<'a> {
         }
     }
 
+    // The field at hand, or nothing where it is missing or empty; the cursor moves past it. The cursor is no `Iterator`: in
+    // `fields.take(..)` an iterator's own `take` would stand before the one here.
+    pub fn next(&mut self) -> Option<&'a [u8]>
+        ensures value { seen result ≡ field_at self.old }
+        ensures stepped { Stepped self.old self.new }
+    {
+        let rest = self.line.bytes.get(self.place..)?;
+        let width = run(rest, Mark::Space);
+        let field = &rest[..width];
+        if field.is_empty() {
+            return None;
+        }
+        self.place += width + 1;
+        Some(field)
+    }
+
     // The worth of the field at hand, which must be there and of this kind; the cursor moves past it.
     pub fn take<K: Kind>(&mut self, kind: &K) -> Result<K::Value, Fault>
         ensures value { result ≡ read_at self.old (K.worth kind.now) (K.fails kind.now) }
@@ -60,26 +75,6 @@ impl<'a> Fields<'a> {
             return Err(self.fault(Cause::Field));
         }
         self.line.closed()
-    }
-}
-
-impl<'a> Iterator for Fields<'a> {
-    type Item = &'a [u8];
-
-    ghost next_gives = { Gives };
-
-    ghost remaining = { λ s. at_most (length s.line.bytes.now + 1 - s.place) };
-
-    // The field at hand, or nothing where it is missing or empty; the cursor moves past it.
-    fn next(&mut self) -> Option<&'a [u8]> {
-        let rest = self.line.bytes.get(self.place..)?;
-        let width = run(rest, Mark::Space);
-        let field = &rest[..width];
-        if field.is_empty() {
-            return None;
-        }
-        self.place += width + 1;
-        Some(field)
     }
 }
 

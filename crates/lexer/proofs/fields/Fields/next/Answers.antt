@@ -4,17 +4,17 @@ use Rattle.std.proofs.lemmas.Bool.{eqb-true, eqb-false}
 use Rattle.std.proofs.lemmas.Grind.{common_steps}
 use Rattle.lexer.specs.FieldsLeft.{seen}
 use Rattle.lexer.proofs.Places.{width_past, width_rest, field_missing, field_there}
-use Rattle.lexer.proofs.fields.FieldsIterator.next.Goals as goal
+use Rattle.lexer.proofs.fields.Fields.next.Goals as goal
 
-pub returns-in_err-rest-clause-steps : goal.returns-in_err-rest-clause-steps
-returns-in_err-rest-clause-steps c =
+pub returns-in_err-rest : goal.returns-in_err-rest
+returns-in_err-rest c =
     let line = c.args.self.now.line.bytes.now in
     let p = c.args.self.now.place in
     let m = field_missing line p (width_past line p (grind (arith, common_steps))) in
     record { value = ap seen c.from_residual.ensures ∙ m.0; stepped = record { line = refl; place = m.1 } }
 
-pub returns-then-is_empty-clause-steps : goal.returns-then-is_empty-clause-steps
-returns-then-is_empty-clause-steps c =
+pub returns-then-is_empty : goal.returns-then-is_empty
+returns-then-is_empty c =
     let line = c.args.self.now.line.bytes.now in
     let p = c.args.self.now.place in
     let e = c.run-width.ensures.value ∙ width_rest line p _ c.in_ok-rest.ensures.lookup.0.2 in
@@ -23,8 +23,8 @@ returns-then-is_empty-clause-steps c =
     let m = field_missing line p (sym e ∙ sym short ∙ empty) in
     record { value = m.0; stepped = record { line = refl; place = m.1 } }
 
-pub returns-clause-steps : goal.returns-clause-steps
-returns-clause-steps c =
+pub returns : goal.returns
+returns c =
     let line = c.args.self.now.line.bytes.now in
     let p = c.args.self.now.place in
     let part = c.in_ok-rest.ensures.lookup.0.2 in
