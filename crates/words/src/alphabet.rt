@@ -17,10 +17,5 @@ pub fn bad_byte(text: &[u8]) -> Option<usize>
     ensures answer { result ≡ first_bad text.now }
     ensures first { FirstBad text.now result }
 {
-    for (i, b) in text.iter().enumerate() {
-        if !is_allowed(*b) {
-            return Some(i);
-        }
-    }
-    None
+    text.iter().position(|b| !is_allowed(*b))
 }

@@ -24,11 +24,7 @@ fn word_start(text: &[u8], from: usize) -> usize
     ensures start { result ≡ word_start text.now from }
     ensures none { length text.now ≤ result → words_left text.now from ≡ [] }
 {
-    let mut start = from;
-    while start < text.len() && !is_ink(text[start]) {
-        start += 1;
-    }
-    start
+    from + text.iter().skip(from).take_while(|b| !is_ink(**b)).count()
 }
 
 // The first offset from `from` on whose byte is not ink; where there is none, the end of the text.
@@ -36,11 +32,7 @@ fn word_start(text: &[u8], from: usize) -> usize
 pub fn word_end(text: &[u8], from: usize) -> usize
     ensures { result ≡ word_end text.now from }
 {
-    let mut end = from;
-    while end < text.len() && is_ink(text[end]) {
-        end += 1;
-    }
-    end
+    from + text.iter().skip(from).take_while(|b| is_ink(**b)).count()
 }
 
 // The first word of what is left of the text from `from` on. Go on at the word's end for the next one.
