@@ -6,10 +6,7 @@ ghost use Rattle.words.specs.Alphabet.{first_bad, allowed, FirstBad};
 fn is_allowed(b: u8) -> bool
     ensures { result ≡ allowed b }
 {
-    match b as char {
-        '\n' | ' '..='~' => true,
-        _ => false,
-    }
+    matches!(b as char, '\n' | ' '..='~')
 }
 
 // The offset of the first byte that may not stand in a text.
