@@ -5,7 +5,7 @@ use Rattle.std.specs.List.{flat_map}
 use Rattle.std.proofs.lemmas.Fmt.{length-decimal-le}
 use Rattle.std.proofs.lemmas.List.{length-append}
 use Rattle.printing.specs.Faults.{layer_word, fault_line}
-use Rattle.printing.specs.Fields.{field}
+use Rattle.rules.specs.Printed.{field}
 use Rattle.printing.specs.declared.faults.FaultLine.{FaultLine}
 use Rattle.printing.specs.declared.faults.Layer.{Layer}
 use Rattle.printing.specs.declared.faults.Layer.TheVariants.{File, Text, Sheet}
@@ -31,6 +31,6 @@ fault_short f a b c =
     let p : length last ≡ length (field f.place) + 0 = length-append (field f.place) [] in
     let q : length later ≡ length (field f.cause) + length last = length-append (field f.cause) last in
     let r : length all ≡ length (field f.line) + length later = length-append (field f.line) later in
-    let s : length (all ++ end) ≡ length all + 1 = length-append all end in
-    let t = length-append (layer_word f.layer) (all ++ end) in
+    let s = length-append (layer_word f.layer) all in
+    let t = length-append (layer_word f.layer ++ all) end in
     omega arith

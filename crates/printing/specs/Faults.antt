@@ -2,7 +2,8 @@
 --     layer_word l   the name of a layer
 --     fault_line f   the line that is printed of a fault: its layer, line, cause and place
 use Rattle.std.specs.Prelude.{ℕ, List, [], ◌∷◌, ◌++◌, codes}
-use Rattle.printing.specs.Fields.{fields}
+use Rattle.rules.specs.Printed.{fields}
+use Rattle.printing.specs.Ended.{ended}
 use Rattle.printing.specs.declared.faults.FaultLine.{FaultLine}
 use Rattle.printing.specs.declared.faults.Layer.{Layer}
 use Rattle.printing.specs.declared.faults.Layer.TheVariants.{File, Text, Sheet}
@@ -13,4 +14,4 @@ layer_word Text = codes "text"
 layer_word Sheet = codes "sheet"
 
 abbrev pub fault_line : FaultLine → List ℕ
-fault_line f = codes "fault " ++ (layer_word f.layer ++ fields (f.line ∷ f.cause ∷ f.place ∷ []))
+fault_line f = ended (codes "fault " ++ (layer_word f.layer ++ fields (f.line ∷ f.cause ∷ f.place ∷ [])))

@@ -1,5 +1,6 @@
 pub mod Boxes
 pub mod Faults
-pub mod Fields
+pub mod Ended
 pub mod Laying
+pub mod Pages
 pub mod Outputs

@@ -1,11 +1,12 @@
 // The line of a fault.
 ghost use Rattle.std.specs.Prelude.{◌≡◌, length};
 ghost use Rattle.printing.specs.Faults.{layer_word, fault_line};
-ghost use Rattle.printing.specs.Laying.{memory, laid};
+ghost use Rattle.printing.specs.Laying.{laid};
 ghost use Rattle.printing.specs.Outputs.{print_answer, print_kept};
+ghost use Rattle.printing.specs.Pages.{on};
 
-use crate::laying::{numbers, text};
-use crate::outputs::{ShortOutput, room};
+use crate::outputs::{Printable, ShortOutput, print_at_front, wanted};
+use crate::pages::Page;
 
 // The part that refuses.
 #[derive(Clone, Copy)]
@@ -26,36 +27,33 @@ pub struct FaultLine {
 }
 
 // Lays the word of a layer.
-fn layer_word(out: &mut [u8], at: usize, layer: Layer) -> usize
-    ensures { memory result out.new ≡ laid (memory at out.old) (layer_word layer) }
+fn layer_word(page: &mut Page<'_>, layer: Layer)
+    ensures bytes { on page.new ≡ laid (on page.old) (layer_word layer) }
+    ensures memory { page.new.out.ghost_name ≡ page.old.out.ghost_name }
 {
     match layer {
-        Layer::File => text(out, at, b"file"),
-        Layer::Text => text(out, at, b"text"),
-        Layer::Sheet => text(out, at, b"sheet"),
+        Layer::File => page.text(b"file"),
+        Layer::Text => page.text(b"text"),
+        Layer::Sheet => page.text(b"sheet"),
     }
 }
 
-// Lays the line of a fault at the front of the memory.
-fn lay(fault: FaultLine, out: &mut [u8]) -> usize
-    ensures { memory result out.new ≡ laid (memory 0 out.old) (fault_line fault) }
-{
-    let at = text(out, 0, b"fault ");
-    let at = layer_word(out, at, fault.layer);
-    let list = [
-        fault.line as u64,
-        u64::from(fault.cause),
-        fault.place as u64,
-    ];
-    numbers(out, at, &list)
+// The line of a fault.
+impl Printable for FaultLine {
+    ghost bytes = { fault_line };
+
+    fn lay(&self, page: &mut Page<'_>) {
+        page.text(b"fault ");
+        layer_word(page, self.layer);
+        page.numbers(&[self.line as u64, u64::from(self.cause), self.place as u64]);
+    }
 }
 
 // How many bytes the line of a fault takes.
 pub fn fault_length(fault: FaultLine) -> usize
     ensures { result ≡ length (fault_line fault) }
 {
-    let mut none = [0u8; 0];
-    lay(fault, &mut none)
+    wanted(&fault)
 }
 
 // Prints the line of a fault at the front of the memory, and answers how many bytes it takes; or refuses memory that is too
@@ -64,6 +62,5 @@ pub fn print_fault(fault: FaultLine, out: &mut [u8]) -> Result<usize, ShortOutpu
     ensures answer { result ≡ print_answer (fault_line fault) out.old }
     ensures kept { out.new ≡ print_kept (fault_line fault) out.old }
 {
-    room(fault_length(fault), out)?;
-    Ok(lay(fault, out))
+    print_at_front(&fault, out)
 }

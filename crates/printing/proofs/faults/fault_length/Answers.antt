@@ -1,13 +1,12 @@
-use Rattle.std.proofs.Common.{◌≡◌, [], arith}
+use Rattle.std.proofs.Common.{◌≡◌, arith}
 use Rattle.printing.specs.Faults.{fault_line}
 use Rattle.printing.specs.Laying.{counted}
-use Rattle.printing.proofs.Laid.{counted_all}
 use Rattle.printing.proofs.Short.{fault_short}
 use Rattle.printing.proofs.faults.fault_length.Goals as goal
 
 pub returns : goal.returns
 returns c =
     let f = c.args.fault in
-    let e : c.lay.result ≡ counted (fault_line f) = counted_all (fault_line f) [] c.lay.result c.lay.new.out c.lay.ensures in
+    let e : c.wanted.result ≡ counted (fault_line f) = c.wanted.ensures in
     let s = fault_short f (omega arith) (omega arith) (omega arith) in
     omega arith
