@@ -2,10 +2,9 @@
 // calls over no memory say how much of it is wanted.
 // This stands beside `fmt::Write` because the contract of `write!` leaves open when a writer may fail, and a page never does.
 ghost use Rattle.std.specs.Prelude.{◌≡◌, [], ◌∷◌, decimal};
-ghost use Rattle.printing.specs.Ended.{ended};
+ghost use Rattle.faults.specs.Fields.{fields};
 ghost use Rattle.printing.specs.Laying.{laid};
 ghost use Rattle.printing.specs.Pages.{on};
-ghost use Rattle.rules.specs.Printed.{fields};
 
 // The memory, which stays the same one, and where the next byte goes.
 #[derive(Drop)]
@@ -50,7 +49,7 @@ impl Page<'_> {
 
     // Lays each of these numbers behind a space, and then the line end.
     pub(crate) fn numbers(&mut self, list: &[u64])
-        ensures bytes { on self.new ≡ laid (on self.old) (ended (fields list.now)) }
+        ensures bytes { on self.new ≡ laid (on self.old) (fields list.now) }
         ensures memory { self.new.out.ghost_name ≡ self.old.out.ghost_name }
     {
         for n in list {

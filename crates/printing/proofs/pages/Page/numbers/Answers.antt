@@ -1,6 +1,7 @@
 use Rattle.std.proofs.Common.{[], ◌∷◌, get_or, decimal, sym, ◌∙◌}
 use Rattle.lexer.specs.Bytes.{space, line_end}
-use Rattle.rules.specs.Printed.{field, fields}
+use Rattle.std.specs.List.{flat_map}
+use Rattle.faults.specs.Fields.{field}
 use Rattle.printing.specs.Pages.{on}
 use Rattle.printing.proofs.Laid.{joins, part_more, part_all}
 use Rattle.printing.proofs.pages.Page.numbers.Goals as goal
@@ -19,4 +20,4 @@ returns-clause-bytes c =
     let list = c.args.list.now in
     let v = on c.loop-n.self in
     let e = sym (part_all field list c.loop-n.n-index v c.loop-n-test.false) ∙ c.loop-n.invariant.bytes in
-    joins (fields list) (line_end ∷ []) (on c.args.self.now) v (on c.byte-2.new.self) e c.byte-2.ensures.bytes
+    joins (flat_map field list) (line_end ∷ []) (on c.args.self.now) v (on c.byte-2.new.self) e c.byte-2.ensures.bytes

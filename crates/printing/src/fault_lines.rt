@@ -1,30 +1,15 @@
 // The line of a fault.
 ghost use Rattle.std.specs.Prelude.{◌≡◌, length};
-ghost use Rattle.printing.specs.Faults.{layer_word, fault_line};
+ghost use Rattle.faults.specs.Layers.{layer_word};
+ghost use Rattle.faults.specs.Tellings.{fault_line};
 ghost use Rattle.printing.specs.Laying.{laid};
 ghost use Rattle.printing.specs.Outputs.{print_answer, print_kept};
 ghost use Rattle.printing.specs.Pages.{on};
 
 use crate::outputs::{Printable, ShortOutput, print_at_front, wanted};
 use crate::pages::Page;
-
-// The part that refuses.
-#[derive(Clone, Copy)]
-pub enum Layer {
-    File,
-    Text,
-    Sheet,
-}
-
-// A fault as it is printed: the layer that refuses, the line of the file, counted from 1, the number of the cause, and the
-// offset in the line at which the fault lies, or 0 where it lies in no one place.
-#[derive(Clone, Copy)]
-pub struct FaultLine {
-    pub layer: Layer,
-    pub line: usize,
-    pub cause: u8,
-    pub place: usize,
-}
+use faults::layers::Layer;
+use faults::tellings::FaultLine;
 
 // Lays the word of a layer.
 fn layer_word(page: &mut Page<'_>, layer: Layer)
