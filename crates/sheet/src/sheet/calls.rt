@@ -43,8 +43,8 @@ impl<'a> Sheet<'a> {
         Sheet { store }
     }
 
-    // A new sheet of just this size over lent cells and a lent list, or the refusal that `fault` tells, and then nothing is
-    // written.
+    // A new sheet of just this size over lent cells and a lent list, or the refusal that `fault` tells. Then nothing is
+    // written, which no clause can say: a reference that may go into the result has no value after the call.
     pub fn try_new(
         size: SheetSize,
         cells: &'a mut [Reach],
