@@ -17,7 +17,7 @@ use Rattle.rules.specs.Runs.{start}
 use Rattle.rules.proofs.Single.{some_none}
 use Rattle.sheet.specs.declared.sizes.SheetSize.{SheetSize}
 use Rattle.sheet.specs.declared.store.Store.{Store}
-use Rattle.sheet.specs.View.{Kept, Fit}
+use Rattle.sheet.specs.View.{Kept}
 use Rattle.sheet.specs.Stores.{view}
 use Rattle.sheet.specs.Fresh.{most_line, within, new_refusal, size_of, used_of, empty_view, Fresh}
 
@@ -38,22 +38,13 @@ kept_empty z rows list line w h l p told = record {
   };
 }
 
-fit_empty : (rows : Rows) (list : List BoxRecord) (line : ℕ) → FitRows rows → line ≤ 255 → Fit (empty_view rows list line)
-fit_empty rows list line f l = record {
-  rows = f;
-  list = omega arith;
-  line = l;
-  current = λ n e. absurd (some_none e refl);
-  para = λ p e. absurd (some_none e refl);
-}
-
 module _ (z : SheetSize) (cells : List Reach) (list : List BoxRecord) (s : Store) (rows : Rows) where
   pub made_refused : (o : Option Refusal) → new_refusal z (length cells) ≡ o → is_some o ≡ true → view s ≡ empty_view rows list 1 → Bare cells rows → Fresh z cells list s
   made_refused None is t same bare = absurd (let x : ◌≡◌ {A = ℕ} 0 1 = cc in omega arith)
   made_refused (Some e) is t same bare = record {
     kept = subst (λ r. Kept (size_of r z (length list)) [] (view s)) (sym is)
         (subst (λ v. Kept (size_of (Some e) z (length list)) [] v) (sym same) (kept_empty (size_of (Some e) z (length list)) rows list 1 bare.width bare.height refl refl bare.told));
-    fit = subst Fit (sym same) (fit_empty rows list 1 bare.fit (omega arith));
+    fit = subst FitRows (sym (ap (λ v. v.rows) same)) bare.fit;
     list_is = ap (λ v. v.recs) same;
     rest = subst (λ r. drop (used_of r z.height) s.rows.tree.cells.now ≡ drop (used_of r z.height) cells) (sym is) (ap (λ v. v.rows.tree.cells.now) same ∙ bare.same);
   }
@@ -76,7 +67,7 @@ module _ (z : SheetSize) (cells : List Reach) (list : List BoxRecord) (s : Store
       record {
         kept = subst (λ r. Kept (size_of r z (length list)) [] (view s)) (sym is)
             (subst (λ v. Kept (size_of None z (length list)) [] v) (sym same) (kept_empty (size_of None z (length list)) rows list z.line laid.width laid.height refl refl laid.told));
-        fit = subst Fit (sym same) (fit_empty rows list z.line (laid.fit r.0 r.1) r.2);
+        fit = subst FitRows (sym (ap (λ v. v.rows) same)) (laid.fit r.0 r.1);
         list_is = ap (λ v. v.recs) same;
         rest = subst (λ r. drop (used_of r z.height) s.rows.tree.cells.now ≡ drop (used_of r z.height) cells) (sym is) (ap (λ v. drop (2 * leaf_count z.height) v.rows.tree.cells.now) same ∙ laid.rest);
       }

@@ -2,10 +2,11 @@
 use Rattle.std.proofs.Common.{◌≡◌, ◌*◌, ◌≤◌, List, length, ap}
 use mathlib.Core.Logic.{∥∥₁_map}
 use Rattle.reaches.specs.declared.reach.Reach.{Reach}
+use Rattle.rows.specs.Fit.{Fit}
 use Rattle.rules.specs.Account.{Size}
 use Rattle.rules.specs.Runs.{Call, Answer, Event}
 use Rattle.rules.proofs.Right.{right}
-use Rattle.sheet.specs.View.{View, Kept, Reached, Fit, FitSums, FitList, FitLine, FitLow, FitWords, FitPara, Alike}
+use Rattle.sheet.specs.View.{View, Kept, Reached, FitSums, Alike}
 use Rattle.sheet.specs.Told.{Told}
 use Rattle.sheet.specs.Sheets.{Lawful}
 use Rattle.sheet.proofs.Moves.{onward}
@@ -17,38 +18,28 @@ abbrev pub Parts : View → Type 0
 Parts v = record {
   few : v.rows.tree.count ≤ v.rows.tree.size;
   long : 2 * v.rows.tree.size ≤ length v.rows.tree.cells.now;
-  sums : FitSums v;
+  sums : FitSums v.rows;
   count : v.rows.tree.count ≡ v.rows.height;
   wide : v.rows.width ≤ 4096;
   high : v.rows.height ≤ 4096;
-  list : FitList v;
-  line : FitLine v;
-  low : FitLow v;
-  words : FitWords v;
-  para : FitPara v;
   reached : Reached v;
 }
 
-pub parts_of : (v : View) → Fit v → Reached v → Parts v
+pub parts_of : (v : View) → Fit v.rows → Reached v → Parts v
 parts_of v f r =
-    let s = f.rows.sound in
+    let s = f.sound in
     record {
       few = s.shaped.few;
       long = s.shaped.long;
       sums = λ k h. alike _ _ (s.sums k h.0 h.1);
-      count = f.rows.count;
-      wide = f.rows.wide;
-      high = f.rows.high;
-      list = f.list;
-      line = f.line;
-      low = λ l e. (f.current l e).low;
-      words = λ l e. (f.current l e).words;
-      para = f.para;
+      count = f.count;
+      wide = f.wide;
+      high = f.high;
       reached = r;
     }
 
 -- after one call more
-pub parts : (c : Call) (a : Answer) (v w : View) → Reached v → Fit w → Told c a v w → Parts w
+pub parts : (c : Call) (a : Answer) (v w : View) → Reached v → Fit w.rows → Told c a v w → Parts w
 parts c a v w r f told = parts_of w f (onward c a r told)
 
 -- the law holds of whatever led here

@@ -29,11 +29,7 @@ use text::Text;
 impl<'a> Sheet<'a> {
     // A new sheet over lent cells and a lent list. Of a size that `fault` refuses it makes one whose opens are all
     // refused, and writes nothing.
-    pub fn new(
-        size: SheetSize,
-        cells: &'a mut [Reach],
-        list: &'a mut [BoxRecord],
-    ) -> Sheet<'a>
+    pub fn new(size: SheetSize, cells: &'a mut [Reach], list: &'a mut [BoxRecord]) -> Sheet<'a>
         ensures account { Past (new_size size (length cells.old) (length list.old)) [] result }
         ensures named { result.store.list.ghost_name ≡ list.entry.ghost_name }
         ensures list { result.store.list.now ≡ list.old }
@@ -144,9 +140,7 @@ impl<'a> Sheet<'a> {
     {
         let Sheet { store } = self;
         let Store { list, used, .. } = store;
-        Finished {
-            boxes: &list[0..used],
-            spare: &list[used..],
-        }
+        let (boxes, spare) = list.split_at(used);
+        Finished { boxes, spare }
     }
 }

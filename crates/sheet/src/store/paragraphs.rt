@@ -1,7 +1,8 @@
 // Opening and ending a paragraph.
 ghost use Rattle.std.specs.Prelude.{◌≡◌, true, ◌&&◌, is_ok, IfOk, IfErr, Some, OnErr, nat_le, nat_lt};
+ghost use Rattle.rows.specs.Fit.{Fit as FitRows};
 ghost use Rattle.rules.specs.Runs.{opens, ends};
-ghost use Rattle.sheet.specs.View.{Fit, Rest, number_in};
+ghost use Rattle.sheet.specs.View.{Rest, number_in};
 ghost use Rattle.sheet.specs.Told.{Told};
 ghost use Rattle.sheet.specs.Stores.{view, open_answer, end_answer};
 
@@ -24,8 +25,8 @@ fn leave_a_unit(margins: Span, width: u32) -> bool
 
 impl<'a> Store<'a> {
     pub(crate) fn open(&mut self, margins: Span, clear: Clear) -> Result<Slip, Refusal>
-        requires { Fit (view self.old) }
-        ensures fit { Fit (view self.new) }
+        requires { FitRows self.old.rows }
+        ensures fit { FitRows self.new.rows }
         ensures named { self.new.list.ghost_name ≡ self.old.list.ghost_name }
         ensures same { OnErr result (view self.new ≡ view self.old) }
         ensures memory { (self.new.rows ≡ self.old.rows) × (self.new.list.now ≡ self.old.list.now) }
@@ -53,8 +54,8 @@ impl<'a> Store<'a> {
     }
 
     pub(crate) fn end(&mut self, mut slip: Slip) -> Result<(), (Refusal, Slip)>
-        requires { Fit (view self.old) }
-        ensures fit { Fit (view self.new) }
+        requires { FitRows self.old.rows }
+        ensures fit { FitRows self.new.rows }
         ensures named { self.new.list.ghost_name ≡ self.old.list.ghost_name }
         ensures same { IfErr result (λ b. (view self.new ≡ view self.old) × (b.1 ≡ slip)) }
         ensures rest { Rest (view self.old) (view self.new) }
@@ -62,17 +63,15 @@ impl<'a> Store<'a> {
         ensures own { number_in self.old.para ≡ Some slip.number → is_ok result ≡ true }
         ensures account { Told (ends slip.number) (end_answer result) (view self.old) (view self.new) }
     {
-        match self.para {
-            None => Err((Refusal::NoParagraph, slip)),
-            Some(para) => {
-                if para.number != slip.number {
-                    return Err((Refusal::WrongSlip, slip));
-                }
-                self.close(para.margins);
-                self.para = None;
-                slip.number = 0;
-                Ok(())
-            }
+        let Some(para) = self.para else {
+            return Err((Refusal::NoParagraph, slip));
+        };
+        if para.number != slip.number {
+            return Err((Refusal::WrongSlip, slip));
         }
+        self.close(para.margins);
+        self.para = None;
+        slip.number = 0;
+        Ok(())
     }
 }

@@ -1,5 +1,5 @@
 use Rattle.std.proofs.Common.{◌≡◌, ◌-◌, ◌≤◌, Some}
-use Rattle.sheet.specs.View.{Fit, Rest}
+use Rattle.sheet.specs.View.{Rest}
 use Rattle.sheet.specs.Told.{Flowing}
 use Rattle.sheet.specs.Stores.{view, advances_in}
 use Rattle.sheet.proofs.store.Store.flow.Given as goal
@@ -7,7 +7,6 @@ use Rattle.sheet.proofs.store.Store.flow.Given as goal
 abbrev pub invariant-loop-i : goal.invariant-loop-i
 invariant-loop-i l =
     (l.from ≤ l.i)
-    × Fit (view l.self)
     × (l.self.list.ghost_name ≡ l.initial.self.list.ghost_name)
     × (l.self.para ≡ Some l.para)
     × (l.self.rows ≡ l.initial.self.rows)
