@@ -1,9 +1,10 @@
 -- What the parts of a call find out and leave. Assumes nothing.
+--     RoomLeft v m sp l r  the line l between the margins m has r units left behind a space sp, or none where that has no room
 --     Joined v m sp a r   r is the open line with the word a joined to it, or none where it has no room for it
 --     Open v r            r is the box that the open line would have if it closed now, by every account that v holds
 --     FitOpen n rows l   the line l of n rows ends on the sheet, and each of its words takes a unit or more
 --     Closed v m w        w is v with its open line closed, if there is one, between the margins m
-use Rattle.std.specs.Prelude.{◌≡◌, ℕ, ◌+◌, ◌≤◌, List, Some, None, Option, slice_set}
+use Rattle.std.specs.Prelude.{◌≡◌, ℕ, ◌+◌, ◌<◌, ◌≤◌, List, Some, None, Option, slice_set}
 use Rattle.places.specs.declared.parts.Span.{Span}
 use Rattle.places.specs.declared.parts.Line.{Line}
 use Rattle.places.specs.Panels.{Placed}
@@ -16,6 +17,10 @@ use Rattle.rules.specs.declared.boxes.LineBox.{LineBox}
 use Rattle.rules.specs.Account.{Size, Account, open_line}
 use Rattle.rules.specs.Words.{longer}
 use Rattle.sheet.specs.View.{View, Held}
+
+abbrev pub RoomLeft : View → Span → ℕ → Line → Option ℕ → Type 0
+RoomLeft v m sp l (Some n) = (qs : List Placed) → Tells v.rows qs → room (band m qs l.top v.line) ≡ l.used + sp + n
+RoomLeft v m sp l None = (qs : List Placed) → Tells v.rows qs → room (band m qs l.top v.line) < l.used + sp
 
 abbrev pub Joined : View → Span → ℕ → ℕ → Option Line → Type 0
 Joined v m sp a (Some k) = (l : Line) × (v.current ≡ Some l) × (k ≡ longer sp a l) × ((qs : List Placed) → Tells v.rows qs → l.used + sp + a ≤ room (band m qs l.top v.line))

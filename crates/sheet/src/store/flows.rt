@@ -28,25 +28,18 @@ impl<'a> Store<'a> {
         let Some(words) = self.current else {
             return from;
         };
-        let band = self.rows.band(para.margins, words.top, self.line);
         let space = text.space();
-        let taken = words.used as u64 + space as u64;
-        let room = band.to.saturating_sub(band.from) as u64;
-        if room < taken {
+        let Some(width) = self.room_left(words, para.margins, space) else {
             return from;
-        }
-        let limit = Room {
-            width: (room - taken) as u32,
-            space,
         };
-        let to = text.longest_run(from, &limit);
-        let run = text.fold(from, to);
+        let to = text.longest_run(from, &Room { width, space });
         if to <= from {
             return from;
         }
+        let run = text.fold(from, to);
         self.current = Some(Line {
             top: words.top,
-            used: (taken + run.width(space)) as u32,
+            used: words.used + u32::from(space) + run.width(space) as u32,
             words: words.words + run.count,
         });
         to

@@ -1,12 +1,12 @@
 // Setting one word: on the open line, or on a new one.
-ghost use Rattle.std.specs.Prelude.{◌≡◌, ◌+◌, ◌≤◌, length, Some, OnErr, nat_le};
+ghost use Rattle.std.specs.Prelude.{◌≡◌, ◌+◌, ◌^◌, ◌<◌, ◌≤◌, length, IfSome, Some, OnErr, nat_le};
 ghost use Rattle.places.specs.declared.parts.Line.{Line};
 ghost use Rattle.rows.specs.Fit.{Fit as FitRows};
 ghost use Rattle.rules.specs.Account.{reserved};
 ghost use Rattle.text.specs.Measure.{FitAdvance};
 ghost use Rattle.sheet.specs.View.{Rest, start_of};
 ghost use Rattle.sheet.specs.Told.{WordTold};
-ghost use Rattle.sheet.specs.Steps.{box_at, Joined, Closed, Open, FitOpen};
+ghost use Rattle.sheet.specs.Steps.{box_at, RoomLeft, Joined, Closed, Open, FitOpen};
 ghost use Rattle.sheet.specs.Stores.{view};
 
 use crate::store::Store;
@@ -73,6 +73,19 @@ impl<'a> Store<'a> {
         Some(box_of(words, band))
     }
 
+    // How many units the line of these words leaves behind them and a space.
+    pub(crate) fn room_left(&self, words: Line, margins: Span, space: u8) -> Option<u32>
+        requires fit { FitRows self.now.rows }
+        requires margins { margins.to ≤ self.now.rows.width }
+        requires ends { words.top + self.now.line ≤ self.now.rows.height }
+        ensures fits { IfSome result (λ n. words.used + space + n < 2 ^ 32) }
+        ensures told { RoomLeft (view self.now) margins space words result }
+    {
+        let band = self.rows.band(margins, words.top, self.line);
+        let room = band.to.saturating_sub(band.from);
+        room.checked_sub(words.used)?.checked_sub(u32::from(space))
+    }
+
     // The open line with a word of this advance joined to it, if it fits.
     fn joined(&self, margins: Span, advance: u32, space: u8) -> Option<Line>
         requires fit { FitRows self.now.rows }
@@ -82,17 +95,13 @@ impl<'a> Store<'a> {
         ensures fit { (l : Line) → result ≡ Some l → FitOpen self.now.line self.now.rows l }
     {
         let words = self.current?;
-        let band = self.rows.band(margins, words.top, self.line);
-        let used = words
-            .used
-            .checked_add(u32::from(space))?
-            .checked_add(advance)?;
-        if used > band.to.saturating_sub(band.from) {
+        let room = self.room_left(words, margins, space)?;
+        if advance > room {
             return None;
         }
         Some(Line {
             top: words.top,
-            used,
+            used: words.used + u32::from(space) + advance,
             words: words.words + 1,
         })
     }
