@@ -12,6 +12,8 @@ use Rattle.rules.specs.Account.{Size, Account, reserved, full}
 use Rattle.rules.specs.Runs.{Call, Answer, Event, event, Step, next}
 use Rattle.sheet.specs.View.{View, Boxed, Held, Kept, Reached, Rest}
 use Rattle.sheet.specs.Told.{Told}
+use Rattle.sheet.specs.declared.store.Store.{Store}
+use Rattle.sheet.specs.Stores.{view, Keeps, Sets}
 
 pub move : {z : Size} {past : List Event} {v w : View} {c : Call} {a : Answer} {B : Account} → (k : Kept z past v) → Step z k.account c a B → Held z B w → Kept z (event c a ∷ past) w
 move {B} k s h = record { account = B; run = next _ k.run s; held = h }
@@ -59,3 +61,9 @@ drop_on m n xs ys le e =
 
 pub rest_then : (v s w : View) → Rest v s → Rest s w → Rest v w
 rest_then v s w a b = let g = a.grows in let h = b.grows in record { grows = omega arith; keeps = b.keeps ∙ drop_on s.used w.used s.recs v.recs h a.keeps }
+
+keeps_then : (r s t : Store) → Keeps r s → Keeps s t → Keeps r t
+keeps_then r s t a b = record { named = b.named ∙ a.named; rest = rest_then (view r) (view s) (view t) a.rest b.rest }
+
+pub sets_then : (r s t : Store) → Sets r s → Sets s t → Sets r t
+sets_then r s t a b = record { keeps = keeps_then r s t a.keeps b.keeps; rows = b.rows ∙ a.rows; para = b.para ∙ a.para }

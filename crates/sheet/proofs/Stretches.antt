@@ -14,11 +14,7 @@ use Rattle.text.specs.declared.texts.Text.{Text}
 use Rattle.text.specs.Run.{largest, no_run, longer, width_of, has_room}
 use Rattle.text.specs.Measure.{FitAdvance, run_of, no_word}
 use Rattle.text.specs.Text.{words_in, runs_in}
-use Rattle.places.specs.declared.parts.Span.{Span}
 use Rattle.places.specs.declared.parts.Line.{Line}
-use Rattle.places.specs.Panels.{Placed}
-use Rattle.places.specs.Bands.{room, band}
-use Rattle.rows.specs.Told.{Tells}
 use Rattle.rules.specs.declared.paragraphs.Paragraph.{Paragraph}
 use Rattle.sheet.specs.View.{View}
 use Rattle.sheet.specs.Told.{Flowing}

@@ -2,9 +2,8 @@
 ghost use Rattle.std.specs.Prelude.{◌≡◌, ◌≤◌, true, is_some, Some};
 ghost use Rattle.rows.specs.Fit.{Fit as FitRows};
 ghost use Rattle.rules.specs.Runs.{flows};
-ghost use Rattle.sheet.specs.View.{Rest};
 ghost use Rattle.sheet.specs.Told.{Told, Flowing};
-ghost use Rattle.sheet.specs.Stores.{view, advances_in, flow_answer};
+ghost use Rattle.sheet.specs.Stores.{view, Sets, advances_in, flow_answer};
 
 use crate::answers::Flowed;
 use crate::store::Store;
@@ -19,10 +18,7 @@ impl<'a> Store<'a> {
         requires fit { FitRows self.old.rows }
         requires para { self.old.para ≡ Some para }
         ensures on { from ≤ result }
-        ensures named { self.new.list.ghost_name ≡ self.old.list.ghost_name }
-        ensures rest { Rest (view self.old) (view self.new) }
-        ensures rows { self.new.rows ≡ self.old.rows }
-        ensures para { self.new.para ≡ self.old.para }
+        ensures sets { Sets self.old self.new }
         ensures account { Flowing para text.now.space (advances_in text.now) from result (view self.old) (view self.new) }
     {
         let Some(words) = self.current else {
@@ -49,11 +45,8 @@ impl<'a> Store<'a> {
     pub(crate) fn flow(&mut self, text: &Text<'_>, from: usize) -> Flowed
         requires { FitRows self.old.rows }
         ensures fit { FitRows self.new.rows }
-        ensures named { self.new.list.ghost_name ≡ self.old.list.ghost_name }
+        ensures sets { Sets self.old self.new }
         ensures same { result.set ≡ 0 → is_some result.stopped ≡ true → view self.new ≡ view self.old }
-        ensures rest { Rest (view self.old) (view self.new) }
-        ensures rows { self.new.rows ≡ self.old.rows }
-        ensures para { self.new.para ≡ self.old.para }
         ensures account { Told (flows (advances_in text.now) text.now.space from) (flow_answer result) (view self.old) (view self.new) }
     {
         let Some(para) = self.para else {

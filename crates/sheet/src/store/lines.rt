@@ -4,10 +4,10 @@ ghost use Rattle.places.specs.declared.parts.Line.{Line};
 ghost use Rattle.rows.specs.Fit.{Fit as FitRows};
 ghost use Rattle.rules.specs.Account.{reserved};
 ghost use Rattle.text.specs.Measure.{FitAdvance};
-ghost use Rattle.sheet.specs.View.{Rest, start_of};
+ghost use Rattle.sheet.specs.View.{start_of};
 ghost use Rattle.sheet.specs.Told.{WordTold};
 ghost use Rattle.sheet.specs.Steps.{box_at, RoomLeft, Joined, Closed, Open, FitOpen};
-ghost use Rattle.sheet.specs.Stores.{view};
+ghost use Rattle.sheet.specs.Stores.{view, Sets};
 
 use crate::store::Store;
 use places::parts::{Line, Span};
@@ -111,11 +111,8 @@ impl<'a> Store<'a> {
         requires fit { FitRows self.old.rows }
         requires para { self.old.para ≡ Some para }
         requires advance { FitAdvance advance }
-        ensures named { self.new.list.ghost_name ≡ self.old.list.ghost_name }
+        ensures sets { Sets self.old self.new }
         ensures same { OnErr result (view self.new ≡ view self.old) }
-        ensures rest { Rest (view self.old) (view self.new) }
-        ensures rows { self.new.rows ≡ self.old.rows }
-        ensures para { self.new.para ≡ self.old.para }
         ensures account { WordTold para space advance result (view self.old) (view self.new) }
     {
         if advance > para.margins.to - para.margins.from {

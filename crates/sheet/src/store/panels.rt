@@ -3,9 +3,8 @@ ghost use Rattle.std.specs.Prelude.{◌≡◌, OnErr, OnOk};
 ghost use Rattle.rows.specs.Asked.{wanted};
 ghost use Rattle.rows.specs.Fit.{Fit as FitRows, Stays};
 ghost use Rattle.rules.specs.Runs.{panels};
-ghost use Rattle.sheet.specs.View.{Rest};
 ghost use Rattle.sheet.specs.Told.{Told};
-ghost use Rattle.sheet.specs.Stores.{view, panel_answer};
+ghost use Rattle.sheet.specs.Stores.{view, Keeps, panel_answer};
 
 use crate::store::Store;
 use places::parts::Place;
@@ -18,9 +17,8 @@ impl<'a> Store<'a> {
     pub(crate) fn panel<S: Shape + Drop>(&mut self, order: Order<S>) -> Result<Place, Refusal>
         requires { FitRows self.old.rows }
         ensures fit { FitRows self.new.rows }
-        ensures named { self.new.list.ghost_name ≡ self.old.list.ghost_name }
+        ensures keeps { Keeps self.old self.new }
         ensures same { OnErr result (view self.new ≡ view self.old) }
-        ensures rest { Rest (view self.old) (view self.new) }
         ensures rows { OnOk result (Stays self.old.rows self.new.rows) }
         ensures para { self.new.para ≡ self.old.para }
         ensures account { Told (panels (wanted order.side order.clear (S.model order.shape))) (panel_answer result) (view self.old) (view self.new) }

@@ -1,4 +1,4 @@
-use Rattle.std.proofs.Common.{◌+◌, ◌<◌, arith}
+use Rattle.std.proofs.Common.{◌<◌, arith}
 use Rattle.text.specs.Run.{largest}
 use Rattle.sheet.specs.Stores.{view}
 use Rattle.sheet.proofs.Stretches.{taken_run, stretches}
