@@ -1,5 +1,6 @@
 // Whole sheets: their lists, their open lines, their memory.
 use crate::playing::{NO_BOX, NO_REACH, SIZE, WHOLE, flow, place, spend};
+use reaches::reach::Reach;
 use rules::boxes::{BoxRecord, LineBox};
 use shapes::orders::Order;
 use shapes::sides::{Clear, Side};
@@ -155,27 +156,37 @@ fn sheets_that_cannot_be_had(rt: HostRuntime) -> Result<(), Fail> {
     Ok(())
 }
 
-// What the memory held before is there after a refusal, and can be lent again.
+// The number of the refusal of a sheet of this size, if it is refused.
+fn refused(size: SheetSize, cells: &mut [Reach], list: &mut [BoxRecord]) -> Option<u8> {
+    match Sheet::try_new(size, cells, list) {
+        Ok(_) => None,
+        Err(refusal) => Some(refusal.number()),
+    }
+}
+
+// After a refusal the list holds what it held.
 #[test]
-fn a_sheet_is_made_or_refused(rt: HostRuntime) -> Result<(), Fail> {
+fn no_sheet_of_a_refused_size(rt: HostRuntime) -> Result<(), Fail> {
     let mut cells = [NO_REACH; 128];
-    let mut list = [NO_BOX; 2];
-    list[1] = BoxRecord::Line(LineBox {
+    let mut few = [NO_REACH; 127];
+    let mut list = [BoxRecord::Line(LineBox {
         x: 1,
         y: 2,
         width: 3,
         words: 4,
-    });
+    }); 2];
     let low = SheetSize { line: 0, ..SIZE };
-    match Sheet::try_new(low, &mut cells, &mut list) {
-        Ok(_) => return Err(Fail::new("a line of no rows")),
-        Err(refusal) => assert_eq!(rt; refusal.number(), 1),
-    }
-    match Sheet::try_new(SIZE, &mut cells[0..127], &mut list) {
-        Ok(_) => return Err(Fail::new("too few cells")),
-        Err(refusal) => assert_eq!(rt; refusal.number(), 2),
-    }
+    assert_eq!(rt; refused(low, &mut cells, &mut list), Some(1));
+    assert_eq!(rt; refused(SIZE, &mut few, &mut list), Some(2));
     assert!(rt; is_line(list.get(1), 1, 2, 3, 4));
+    assert_eq!(rt; refused(SIZE, &mut cells, &mut list), None);
+    Ok(())
+}
+
+#[test]
+fn a_sheet_of_its_whole_size(rt: HostRuntime) -> Result<(), Fail> {
+    let mut cells = [NO_REACH; 128];
+    let mut list = [NO_BOX; 2];
     let Ok(mut sheet) = Sheet::try_new(SIZE, &mut cells, &mut list) else {
         return Err(Fail::new("the sheet is made"));
     };
