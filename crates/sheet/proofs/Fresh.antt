@@ -6,7 +6,6 @@ use Rattle.shapes.specs.Form.{most_units}
 use Rattle.reaches.specs.declared.reach.Reach.{Reach}
 use Rattle.rows.specs.declared.Rows.{Rows}
 use Rattle.rows.specs.Told.{Tells}
-use Rattle.rows.specs.Fit.{Fit as FitRows}
 use Rattle.rows.specs.Made.{Laid, Bare}
 use Rattle.rules.specs.declared.boxes.BoxRecord.{BoxRecord}
 use Rattle.rules.specs.declared.refusals.Refusal.{Refusal}
@@ -44,13 +43,12 @@ module _ (z : SheetSize) (cells : List Reach) (list : List BoxRecord) (s : Store
   made_refused (Some e) is t same bare = record {
     kept = subst (λ r. Kept (size_of r z (length list)) [] (view s)) (sym is)
         (subst (λ v. Kept (size_of (Some e) z (length list)) [] v) (sym same) (kept_empty (size_of (Some e) z (length list)) rows list 1 bare.width bare.height refl refl bare.told));
-    fit = subst FitRows (sym (ap (λ v. v.rows) same)) bare.fit;
     list_is = ap (λ v. v.recs) same;
     rest = subst (λ r. drop (used_of r z.height) s.rows.tree.cells.now ≡ drop (used_of r z.height) cells) (sym is) (ap (λ v. v.rows.tree.cells.now) same ∙ bare.same);
   }
 
   -- what is not refused is in its ranges
-  ranges : new_refusal z (length cells) ≡ None → (z.width ≤ most_units) × (z.height ≤ most_units) × (z.line ≤ most_line)
+  pub ranges : new_refusal z (length cells) ≡ None → (z.width ≤ most_units) × (z.height ≤ most_units) × (z.line ≤ most_line)
   ranges is = go (within z.width most_units && (within z.height most_units && within z.line most_line)) refl is
     where
       go : (b : Bool) → (within z.width most_units && (within z.height most_units && within z.line most_line)) ≡ b → first ((not b, BadSize) ∷ (ltb (length cells) (2 * leaf_count z.height), FewCells) ∷ []) ≡ None → (z.width ≤ most_units) × (z.height ≤ most_units) × (z.line ≤ most_line)
@@ -63,11 +61,9 @@ module _ (z : SheetSize) (cells : List Reach) (list : List BoxRecord) (s : Store
   pub made_new : (o : Option Refusal) → new_refusal z (length cells) ≡ o → is_some o ≡ false → view s ≡ empty_view rows list z.line → Laid cells z.width z.height rows → Fresh z cells list s
   made_new (Some e) is t same laid = absurd (let x : ◌≡◌ {A = ℕ} 0 1 = cc in omega arith)
   made_new None is t same laid =
-      let r = ranges is in
       record {
         kept = subst (λ r. Kept (size_of r z (length list)) [] (view s)) (sym is)
             (subst (λ v. Kept (size_of None z (length list)) [] v) (sym same) (kept_empty (size_of None z (length list)) rows list z.line laid.width laid.height refl refl laid.told));
-        fit = subst FitRows (sym (ap (λ v. v.rows) same)) (laid.fit r.0 r.1);
         list_is = ap (λ v. v.recs) same;
         rest = subst (λ r. drop (used_of r z.height) s.rows.tree.cells.now ≡ drop (used_of r z.height) cells) (sym is) (ap (λ v. drop (2 * leaf_count z.height) v.rows.tree.cells.now) same ∙ laid.rest);
       }

@@ -16,7 +16,6 @@ use Rattle.rules.specs.Account.{Size}
 use Rattle.sheet.specs.declared.sizes.SheetSize.{SheetSize}
 use Rattle.sheet.specs.declared.store.Store.{Store}
 use Rattle.rows.specs.declared.Rows.{Rows}
-use Rattle.rows.specs.Fit.{Fit as FitRows}
 use Rattle.sheet.specs.View.{View, Kept}
 use Rattle.sheet.specs.Stores.{view}
 
@@ -64,6 +63,5 @@ empty_view rows list line = record {
 
 pub record Fresh (z : SheetSize) (cells : List Reach) (list : List BoxRecord) (s : Store) : Type 0 where
   pub kept : Kept (new_size z (length cells) (length list)) [] (view s)
-  pub fit : FitRows s.rows
   pub list_is : s.list.now ≡ list
   pub rest : drop (cells_used z (length cells)) s.rows.tree.cells.now ≡ drop (cells_used z (length cells)) cells

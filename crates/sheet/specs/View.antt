@@ -63,14 +63,6 @@ pub record Kept (z : Size) (past : List Event) (v : View) : Type 0 where
 abbrev pub Reached : View → Type 0
 Reached v = ∥ record { size : Size; past : List Event; kept : Kept size past v } ∥₁
 
--- two reaches with the same numbers
-abbrev pub Alike : Reach → Reach → Type 0
-Alike a b = (a.box_left ≡ b.box_left) × (a.box_right ≡ b.box_right) × (a.area_left ≡ b.area_left) × (a.area_right ≡ b.area_right)
-
--- each inner cell of the tree of rows is the join of the two below it, number by number
-abbrev pub FitSums : Rows → Type 0
-FitSums rows = (k : ℕ) → (0 < k) × (k < rows.tree.size) → Alike (slice_index_or rows.tree.cells.now k no_reach) (farther (slice_index_or rows.tree.cells.now (2 * k) no_reach) (slice_index_or rows.tree.cells.now (2 * k + 1) no_reach))
-
 pub record Rest (v w : View) : Type 0 where
   pub grows : v.used ≤ w.used
   pub keeps : drop w.used w.recs ≡ drop w.used v.recs

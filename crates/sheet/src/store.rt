@@ -38,9 +38,12 @@ pub struct Store<'a> {
     pub(crate) count: u16,
     pub(crate) para: Option<Paragraph>,
     pub(crate) current: Option<Line>,
+    // Sizes stay in their ranges.
+    ghost wide: { rows.width ≤ 4096 },
+    ghost high: { rows.height ≤ 4096 },
+    ghost low: { line ≤ 255 },
     // The list has a place for the open line.
     ghost places: { used + reserved current ≤ length list.now },
-    ghost low: { line ≤ 255 },
     // The open line ends on the sheet, and each of its words takes a unit or more.
     ghost ends: { (l : Line) → current ≡ Some l → l.top + line ≤ rows.height },
     ghost words: { (l : Line) → current ≡ Some l → l.words ≤ l.used },

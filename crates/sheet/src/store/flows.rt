@@ -1,6 +1,5 @@
 // Setting the words of a text.
 ghost use Rattle.std.specs.Prelude.{◌≡◌, ◌≤◌, true, is_some, Some};
-ghost use Rattle.rows.specs.Fit.{Fit as FitRows};
 ghost use Rattle.rules.specs.Runs.{flows};
 ghost use Rattle.sheet.specs.Told.{Told, Flowing};
 ghost use Rattle.sheet.specs.Stores.{view, Sets, advances_in, flow_answer};
@@ -15,8 +14,7 @@ use text::{Room, Text};
 impl<'a> Store<'a> {
     // Joins to the open line, at once, the words from `from` on that it has room for, and answers which comes next.
     fn stretch(&mut self, para: Paragraph, text: &Text<'_>, from: usize) -> usize
-        requires fit { FitRows self.old.rows }
-        requires para { self.old.para ≡ Some para }
+        requires { self.old.para ≡ Some para }
         ensures on { from ≤ result }
         ensures sets { Sets self.old self.new }
         ensures account { Flowing para text.now.space (advances_in text.now) from result (view self.old) (view self.new) }
@@ -43,8 +41,6 @@ impl<'a> Store<'a> {
 
     // Sets the words from a given one on, up to the first that is refused.
     pub(crate) fn flow(&mut self, text: &Text<'_>, from: usize) -> Flowed
-        requires { FitRows self.old.rows }
-        ensures fit { FitRows self.new.rows }
         ensures sets { Sets self.old self.new }
         ensures same { result.set ≡ 0 → is_some result.stopped ≡ true → view self.new ≡ view self.old }
         ensures account { Told (flows (advances_in text.now) text.now.space from) (flow_answer result) (view self.old) (view self.new) }

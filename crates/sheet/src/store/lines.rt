@@ -1,7 +1,6 @@
 // Setting one word: on the open line, or on a new one.
 ghost use Rattle.std.specs.Prelude.{◌≡◌, ◌+◌, ◌^◌, ◌<◌, ◌≤◌, length, IfSome, Some, OnErr, nat_le};
 ghost use Rattle.places.specs.declared.parts.Line.{Line};
-ghost use Rattle.rows.specs.Fit.{Fit as FitRows};
 ghost use Rattle.rules.specs.Account.{reserved};
 ghost use Rattle.text.specs.Measure.{FitAdvance};
 ghost use Rattle.sheet.specs.View.{start_of};
@@ -37,7 +36,6 @@ impl<'a> Store<'a> {
 
     // The first row open to a new line.
     pub(crate) fn start_row(&self) -> u32
-        requires { FitRows self.now.rows }
         ensures { result ≡ start_of self.now.line self.now.cursor self.now.current }
     {
         match self.current {
@@ -48,8 +46,7 @@ impl<'a> Store<'a> {
 
     // Closes the open line, if any: its box goes to the list, and the cursor to its bottom.
     pub(crate) fn close(&mut self, margins: Span)
-        requires fit { FitRows self.old.rows }
-        requires margins { margins.to ≤ self.old.rows.width }
+        requires { margins.to ≤ self.old.rows.width }
         ensures named { self.new.list.ghost_name ≡ self.old.list.ghost_name }
         ensures after { Closed (view self.old) margins (view self.new) }
     {
@@ -64,7 +61,6 @@ impl<'a> Store<'a> {
 
     // The open line, as the box that it would have if it closed now.
     pub(crate) fn open_line(&self) -> Option<LineBox>
-        requires { FitRows self.now.rows }
         ensures { Open (view self.now) result }
     {
         let para = self.para?;
@@ -75,7 +71,6 @@ impl<'a> Store<'a> {
 
     // How many units the line of these words leaves behind them and a space.
     pub(crate) fn room_left(&self, words: Line, margins: Span, space: u8) -> Option<u32>
-        requires fit { FitRows self.now.rows }
         requires margins { margins.to ≤ self.now.rows.width }
         requires ends { words.top + self.now.line ≤ self.now.rows.height }
         ensures fits { IfSome result (λ n. words.used + space + n < 2 ^ 32) }
@@ -88,7 +83,6 @@ impl<'a> Store<'a> {
 
     // The open line with a word of this advance joined to it, if it fits.
     fn joined(&self, margins: Span, advance: u32, space: u8) -> Option<Line>
-        requires fit { FitRows self.now.rows }
         requires margins { margins.to ≤ self.now.rows.width }
         requires advance { FitAdvance advance }
         ensures joined { Joined (view self.now) margins space advance result }
@@ -108,7 +102,6 @@ impl<'a> Store<'a> {
 
     // Sets one word of the open paragraph.
     pub(crate) fn word(&mut self, para: Paragraph, advance: u32, space: u8) -> Result<(), Refusal>
-        requires fit { FitRows self.old.rows }
         requires para { self.old.para ≡ Some para }
         requires advance { FitAdvance advance }
         ensures sets { Sets self.old self.new }

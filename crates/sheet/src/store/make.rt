@@ -1,5 +1,6 @@
 // A new sheet.
 ghost use Rattle.std.specs.Prelude.{◌≡◌, ◌≤◌, length};
+ghost use Rattle.rows.specs.Fit.{Fit};
 ghost use Rattle.sheet.specs.Stores.{view};
 ghost use Rattle.sheet.specs.Fresh.{new_refusal, empty_view, Fresh};
 
@@ -32,7 +33,8 @@ pub fn fault(size: SheetSize, cells: usize) -> Option<Refusal>
 
 // A sheet with nothing on it, over these rows and this list.
 fn empty<'a>(rows: Rows<'a>, list: &'a mut [BoxRecord], line: u32) -> Store<'a>
-    requires { line ≤ 255 }
+    requires rows { Fit rows }
+    requires low { line ≤ 255 }
     ensures view { view result ≡ empty_view rows.entry list.old line }
     ensures named { result.list.ghost_name ≡ list.entry.ghost_name }
 {

@@ -1,13 +1,14 @@
 // Placing a panel.
 ghost use Rattle.std.specs.Prelude.{◌≡◌, OnErr, OnOk};
 ghost use Rattle.rows.specs.Asked.{wanted};
-ghost use Rattle.rows.specs.Fit.{Fit as FitRows, Stays};
+ghost use Rattle.rows.specs.Fit.{Stays};
 ghost use Rattle.rules.specs.Runs.{panels};
 ghost use Rattle.sheet.specs.Told.{Told};
 ghost use Rattle.sheet.specs.Stores.{view, Keeps, panel_answer};
 
 use crate::store::Store;
 use places::parts::Place;
+use rows::ground::Ground;
 use rules::boxes::{BoxRecord, PanelBox};
 use rules::refusals::Refusal;
 use shapes::Shape;
@@ -15,8 +16,6 @@ use shapes::orders::Order;
 
 impl<'a> Store<'a> {
     pub(crate) fn panel<S: Shape + Drop>(&mut self, order: Order<S>) -> Result<Place, Refusal>
-        requires { FitRows self.old.rows }
-        ensures fit { FitRows self.new.rows }
         ensures keeps { Keeps self.old self.new }
         ensures same { OnErr result (view self.new ≡ view self.old) }
         ensures rows { OnOk result (Stays self.old.rows self.new.rows) }
@@ -36,11 +35,14 @@ impl<'a> Store<'a> {
             .top
             .max(para.top)
             .max(self.bottoms.cleared(order.clear));
-        let line = self.line;
-        let current = self.current;
+        let ground = Ground {
+            margins: para.margins,
+            line: self.line,
+            current: self.current,
+        };
         let place = self
             .rows
-            .best_place(para.margins, line, current, start, order.side, &order.shape)
+            .best_place(ground, start, order.side, &order.shape)
             .ok_or(Refusal::NoPlace)?;
         let height = order.shape.height();
         self.rows.take_in(order.side, place, &order.shape);

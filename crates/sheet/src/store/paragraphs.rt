@@ -1,6 +1,5 @@
 // Opening and ending a paragraph.
 ghost use Rattle.std.specs.Prelude.{◌≡◌, true, ◌&&◌, is_ok, IfOk, IfErr, Some, OnErr, nat_le, nat_lt};
-ghost use Rattle.rows.specs.Fit.{Fit as FitRows};
 ghost use Rattle.rules.specs.Runs.{opens, ends};
 ghost use Rattle.sheet.specs.View.{number_in};
 ghost use Rattle.sheet.specs.Told.{Told};
@@ -25,8 +24,6 @@ fn leave_a_unit(margins: Span, width: u32) -> bool
 
 impl<'a> Store<'a> {
     pub(crate) fn open(&mut self, margins: Span, clear: Clear) -> Result<Slip, Refusal>
-        requires { FitRows self.old.rows }
-        ensures fit { FitRows self.new.rows }
         ensures keeps { Keeps self.old self.new }
         ensures same { OnErr result (view self.new ≡ view self.old) }
         ensures memory { (self.new.rows ≡ self.old.rows) × (self.new.list.now ≡ self.old.list.now) }
@@ -53,8 +50,6 @@ impl<'a> Store<'a> {
     }
 
     pub(crate) fn end(&mut self, mut slip: Slip) -> Result<(), (Refusal, Slip)>
-        requires { FitRows self.old.rows }
-        ensures fit { FitRows self.new.rows }
         ensures keeps { Keeps self.old self.new }
         ensures same { IfErr result (λ b. (view self.new ≡ view self.old) × (b.1 ≡ slip)) }
         ensures rows { self.new.rows ≡ self.old.rows }
