@@ -4,12 +4,12 @@ ghost use Rattle.std.specs.List.{slice_get};
 ghost use Rattle.shapes.specs.Box.{make_box};
 ghost use Rattle.shapes.specs.Made.{answered};
 ghost use Rattle.sheet.specs.Sheets.{open_number};
-ghost use Rattle.items.specs.Asked.{raised, Asked};
+ghost use Rattle.items.specs.Asked.{Asked};
 ghost use Rattle.items.specs.Calls.{panel_call};
 ghost use Rattle.items.specs.Shelves.{kept};
 ghost use Rattle.items.specs.Spares.{Spares};
 
-use crate::faults::{FileFault, SheetFault};
+use crate::faults::FileFault;
 use crate::shelves::Shelf;
 use lines::items::{PlainLine, ShapedLine};
 use shapes::orders::Order;
@@ -24,10 +24,10 @@ fn place<S: Shape + Drop>(
     shape: Result<S, NoShape>,
     side: Side,
     clear: Clear,
-) -> Result<(), SheetFault>
+) -> Result<(), FileFault>
     ensures number { open_number sheet.new ≡ open_number sheet.old }
     ensures spares { Spares sheet.old sheet.new }
-    ensures asked { Asked (panel_call side clear (answered S.model shape)) (raised result) sheet.old sheet.new }
+    ensures asked { Asked (panel_call side clear (answered S.model shape)) result sheet.old sheet.new }
 {
     let shape = shape?;
     sheet.panel(Order { shape, side, clear })?;
@@ -41,8 +41,7 @@ pub(crate) fn plain(sheet: &mut Sheet<'_>, panel: PlainLine) -> Result<(), FileF
     ensures asked { Asked (panel_call panel.side panel.clear (make_box panel.width panel.height)) result sheet.old sheet.new }
 {
     let shape = Plain::new(u32::from(panel.width), u32::from(panel.height));
-    place(sheet, shape, panel.side, panel.clear)?;
-    Ok(())
+    place(sheet, shape, panel.side, panel.clear)
 }
 
 // One of the staircases that the file names.
@@ -56,6 +55,5 @@ pub(crate) fn shaped(
     ensures asked { Asked (panel_call panel.side panel.clear (slice_get (kept shelf.now) panel.index)) result sheet.old sheet.new }
 {
     let shape = shelf.get(panel.index).ok_or(NoShape);
-    place(sheet, shape, panel.side, panel.clear)?;
-    Ok(())
+    place(sheet, shape, panel.side, panel.clear)
 }

@@ -3,7 +3,7 @@ ghost use Rattle.std.specs.Prelude.{◌≡◌, length, Option};
 ghost use Rattle.text.specs.Fault.{text_fault};
 ghost use Rattle.sheet.specs.Stores.{flow_answer};
 ghost use Rattle.sheet.specs.Sheets.{open_number};
-ghost use Rattle.items.specs.Asked.{raised, judged, Asked};
+ghost use Rattle.items.specs.Asked.{judged, Asked};
 ghost use Rattle.items.specs.Calls.{refusing, text_call};
 ghost use Rattle.items.specs.Spares.{Spares};
 
@@ -17,23 +17,18 @@ use text::{Run, TextFault, Word, fault, measure};
 fn accept(text: &[u8], words: &[Word], runs: &[Run]) -> Result<(), TextFault>
     ensures { result ≡ refusing (text_fault text.now (length words.now) (length runs.now)) }
 {
-    match fault(text, words, runs) {
-        None => Ok(()),
-        Some(fault) => Err(fault),
-    }
+    fault(text, words, runs).map_or(Ok(()), Err)
 }
 
 // Whether all words were set.
-fn complete(flowed: Flowed) -> Result<(), SheetFault>
-    ensures { raised result ≡ judged (flow_answer flowed) }
+fn complete(flowed: Flowed) -> Result<(), FileFault>
+    ensures { result ≡ judged (flow_answer flowed) }
 {
-    match flowed.stopped {
-        None => Ok(()),
-        Some(refusal) => Err(SheetFault {
-            refusal,
-            words: flowed.set,
-        }),
-    }
+    let words = flowed.set;
+    flowed.stopped.map_or(
+        Ok(()),
+        |refusal| Err(FileFault::from(SheetFault { refusal, words })),
+    )
 }
 
 // Measures the text and sets its words.
@@ -50,6 +45,5 @@ pub(crate) fn flow<M: Metrics>(
 {
     accept(text, words, runs)?;
     let measured = measure(metrics, text, words, runs);
-    complete(sheet.flow(&measured, 0))?;
-    Ok(())
+    complete(sheet.flow(&measured, 0))
 }

@@ -29,10 +29,7 @@ fn next_item(
     ensures told { Turned Done (items_plan (setting desk.now (length words.old) (length runs.old))) cursor.old result cursor.new sheet.old sheet.new }
 {
     let line = cursor.next()?;
-    match set_item(sheet, &desk.scale, &desk.shelf, line, words, runs) {
-        Ok(()) => Ok(()),
-        Err(fault) => Err(cursor.behind(fault)),
-    }
+    cursor.judge(set_item(sheet, &desk.scale, &desk.shelf, line, words, runs))
 }
 
 // Sets the next `count` lines as items, up to the first fault.
@@ -49,7 +46,7 @@ pub(crate) fn set_items(
     ensures forward { OnOk result (Forward count cursor.old cursor.new) }
     ensures told { Goes (λ es fs. Done (items_plan (setting desk.now (length words.old) (length runs.old)) count (number cursor.old) (ahead cursor.old)) es fs (fault_in result)) sheet.old sheet.new }
 {
-    for set in 0..count {
+    for _ in 0..count {
         next_item(sheet, desk, cursor, words, runs)?;
     }
     Ok(())

@@ -67,14 +67,10 @@ fn fill(
     ensures forward { OnOk result (Forward head.items cursor.old cursor.new) }
     ensures told { Goes (λ es fs. ParaDone (para_of (setting desk.now (length words.old) (length runs.old)) cursor.old.read head (ahead cursor.old)) es fs (fault_in result)) sheet.old sheet.new }
 {
-    match sheet.open(margins(desk.width, head), head.clear) {
-        Err(refusal) => Err(cursor.behind(FileFault::from(SheetFault::from(refusal)))),
-        Ok(slip) => {
-            let done = set_items(sheet, desk, cursor, head.items, words, runs);
-            spend(sheet, slip);
-            done
-        }
-    }
+    let slip = cursor.judge(open(sheet, desk.width, head))?;
+    let done = set_items(sheet, desk, cursor, head.items, words, runs);
+    spend(sheet, slip);
+    done
 }
 
 // Sets the next paragraph.
@@ -104,7 +100,7 @@ pub(crate) fn set_paragraphs(
     ensures spares { Spares sheet.old sheet.new }
     ensures told { Goes (λ es fs. ParasDone (paras_plan (setting desk.now (length words.old) (length runs.old)) count (number cursor.old) (ahead cursor.old)) es fs (fault_in result)) sheet.old sheet.new }
 {
-    for set in 0..count {
+    for _ in 0..count {
         next_paragraph(sheet, desk, cursor, words, runs)?;
     }
     cursor.end()

@@ -43,11 +43,6 @@ impl Shelf {
     pub fn get(&self, index: u16) -> Option<Stairs>
         ensures { form_of result ≡ slice_get (kept self.now) index }
     {
-        let at = usize::from(index);
-        if at < self.count {
-            Some(self.stairs[at])
-        } else {
-            None
-        }
+        self.stairs[0..self.count].get(usize::from(index)).copied()
     }
 }
