@@ -14,7 +14,7 @@ impl Shelf {
     {
         // What stands past the count is never asked for.
         let Ok(blank) = Stairs::new(1, &[Step { rows: 1, extent: 0 }]) else {
-            unreachable()
+            unreachable!()
         };
         Shelf {
             stairs: [blank; MOST_SHAPES],
