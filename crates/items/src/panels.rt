@@ -1,13 +1,11 @@
 // A panel that a line asks for.
-ghost use Rattle.std.specs.Prelude.{◌≡◌};
 ghost use Rattle.std.specs.List.{slice_get};
 ghost use Rattle.shapes.specs.Box.{make_box};
 ghost use Rattle.shapes.specs.Made.{answered};
-ghost use Rattle.sheet.specs.Sheets.{open_number};
 ghost use Rattle.items.specs.Asked.{Asked};
 ghost use Rattle.items.specs.Calls.{panel_call};
 ghost use Rattle.items.specs.Shelves.{kept};
-ghost use Rattle.items.specs.Spares.{Spares};
+ghost use Rattle.items.specs.Spares.{Keeps};
 
 use crate::faults::FileFault;
 use crate::shelves::Shelf;
@@ -25,8 +23,7 @@ fn place<S: Shape + Drop>(
     side: Side,
     clear: Clear,
 ) -> Result<(), FileFault>
-    ensures number { open_number sheet.new ≡ open_number sheet.old }
-    ensures spares { Spares sheet.old sheet.new }
+    ensures keeps { Keeps sheet.old sheet.new }
     ensures asked { Asked (panel_call side clear (answered S.model shape)) result sheet.old sheet.new }
 {
     let shape = shape?;
@@ -36,8 +33,7 @@ fn place<S: Shape + Drop>(
 
 // A plain box.
 pub(crate) fn plain(sheet: &mut Sheet<'_>, panel: PlainLine) -> Result<(), FileFault>
-    ensures number { open_number sheet.new ≡ open_number sheet.old }
-    ensures spares { Spares sheet.old sheet.new }
+    ensures keeps { Keeps sheet.old sheet.new }
     ensures asked { Asked (panel_call panel.side panel.clear (make_box panel.width panel.height)) result sheet.old sheet.new }
 {
     let shape = Plain::new(u32::from(panel.width), u32::from(panel.height));
@@ -50,8 +46,7 @@ pub(crate) fn shaped(
     shelf: &Shelf,
     panel: ShapedLine,
 ) -> Result<(), FileFault>
-    ensures number { open_number sheet.new ≡ open_number sheet.old }
-    ensures spares { Spares sheet.old sheet.new }
+    ensures keeps { Keeps sheet.old sheet.new }
     ensures asked { Asked (panel_call panel.side panel.clear (slice_get (kept shelf.now) panel.index)) result sheet.old sheet.new }
 {
     let shape = shelf.get(panel.index).ok_or(NoShape);

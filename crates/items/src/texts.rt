@@ -2,10 +2,9 @@
 ghost use Rattle.std.specs.Prelude.{◌≡◌, length, Option};
 ghost use Rattle.text.specs.Fault.{text_fault};
 ghost use Rattle.sheet.specs.Stores.{flow_answer};
-ghost use Rattle.sheet.specs.Sheets.{open_number};
 ghost use Rattle.items.specs.Asked.{judged, Asked};
 ghost use Rattle.items.specs.Calls.{refusing, text_call};
-ghost use Rattle.items.specs.Spares.{Spares};
+ghost use Rattle.items.specs.Spares.{Keeps};
 
 use crate::faults::{FileFault, SheetFault};
 use metrics::advances::Metrics;
@@ -39,8 +38,7 @@ pub(crate) fn flow<M: Metrics>(
     words: &mut [Word],
     runs: &mut [Run],
 ) -> Result<(), FileFault>
-    ensures number { open_number sheet.new ≡ open_number sheet.old }
-    ensures spares { Spares sheet.old sheet.new }
+    ensures keeps { Keeps sheet.old sheet.new }
     ensures asked { Asked (text_call (M.advances metrics.now) (length words.old) (length runs.old) text.now) result sheet.old sheet.new }
 {
     accept(text, words, runs)?;
