@@ -1,7 +1,6 @@
 // The items of a paragraph.
-ghost use Rattle.std.specs.Prelude.{◌≡◌, length, OnOk};
-ghost use Rattle.sheet.specs.Sheets.{open_number};
-ghost use Rattle.items.specs.Spares.{Spares};
+ghost use Rattle.std.specs.Prelude.{length, OnOk};
+ghost use Rattle.items.specs.Spares.{Keeps};
 ghost use Rattle.sheet_file.specs.Cursors.{ahead, number};
 ghost use Rattle.sheet_file.specs.Desks.{setting};
 ghost use Rattle.sheet_file.specs.Done.{fault_in, Done, Goes};
@@ -23,8 +22,7 @@ fn next_item(
     words: &mut [Word],
     runs: &mut [Run],
 ) -> Result<(), Located>
-    ensures number { open_number sheet.new ≡ open_number sheet.old }
-    ensures spares { Spares sheet.old sheet.new }
+    ensures keeps { Keeps sheet.old sheet.new }
     ensures forward { OnOk result (Forward 1 cursor.old cursor.new) }
     ensures told { Turned Done (items_plan (setting desk.now (length words.old) (length runs.old))) cursor.old result cursor.new sheet.old sheet.new }
 {
@@ -41,8 +39,7 @@ pub(crate) fn set_items(
     words: &mut [Word],
     runs: &mut [Run],
 ) -> Result<(), Located>
-    ensures number { open_number sheet.new ≡ open_number sheet.old }
-    ensures spares { Spares sheet.old sheet.new }
+    ensures keeps { Keeps sheet.old sheet.new }
     ensures forward { OnOk result (Forward count cursor.old cursor.new) }
     ensures told { Goes (λ es fs. Done (items_plan (setting desk.now (length words.old) (length runs.old)) count (number cursor.old) (ahead cursor.old)) es fs (fault_in result)) sheet.old sheet.new }
 {

@@ -13,7 +13,7 @@ use crate::cursors::Cursor;
 use crate::desks::Desk;
 use crate::paragraph_items::set_items;
 use crate::readers::formed;
-use items::faults::{FileFault, Located, SheetFault};
+use items::faults::{FileFault, Located};
 use lines::paragraphs::{ParaLine, para_line};
 use places::parts::Span;
 use sheet::sheet::Sheet;
@@ -42,7 +42,7 @@ fn spend(sheet: &mut Sheet<'_>, own: Slip)
 {
     match sheet.end(own) {
         Ok(()) => {}
-        Err(_) => unreachable(),
+        Err(_) => unreachable!(),
     }
 }
 
@@ -67,7 +67,8 @@ fn fill(
     ensures forward { OnOk result (Forward head.items cursor.old cursor.new) }
     ensures told { Goes (λ es fs. ParaDone (para_of (setting desk.now (length words.old) (length runs.old)) cursor.old.read head (ahead cursor.old)) es fs (fault_in result)) sheet.old sheet.new }
 {
-    let slip = cursor.judge(open(sheet, desk.width, head))?;
+    let opened = sheet.open(margins(desk.width, head), head.clear);
+    let slip = cursor.judge(opened.map_err(FileFault::from))?;
     let done = set_items(sheet, desk, cursor, head.items, words, runs);
     spend(sheet, slip);
     done

@@ -48,7 +48,8 @@ impl<'a> Cursor<'a> {
     pub(crate) fn judge<T>(&self, res: Result<T, FileFault>) -> Result<T, Located>
         ensures { result ≡ on_line self.now.read res }
     {
-        res.map_err(|fault| self.behind(fault))
+        let line = self.read;
+        res.map_err(|fault| Located { line, fault })
     }
 
     // No line is left.

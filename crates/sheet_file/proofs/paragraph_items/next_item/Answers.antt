@@ -1,14 +1,12 @@
-use Rattle.std.proofs.Common.{◌≡◌, ℕ, length, Err, Result, sym, ap, ◌∙◌, subst, arith}
+use Rattle.std.proofs.Common.{length, Err, Result, sym, ap, ◌∙◌, subst}
 use Rattle.std.proofs.lemmas.Result.{err_from_is_err_and}
 use Rattle.lexer.specs.LinesLeft.{line_of}
 use Rattle.items.specs.declared.faults.Located.{Located}
-use Rattle.items.specs.Faults.{at_line}
-use Rattle.sheet_file.specs.Cursors.{number}
 use Rattle.sheet_file.specs.Desks.{setting}
 use Rattle.sheet_file.specs.Done.{Done}
 use Rattle.sheet_file.specs.Plans.{items_plan}
 use Rattle.sheet_file.specs.Turns.{Turned}
-use Rattle.sheet_file.proofs.ItemByItem.{item_goes, item_stops, item_absent}
+use Rattle.sheet_file.proofs.ItemByItem.{item_set, item_absent}
 use Rattle.sheet_file.proofs.paragraph_items.next_item.Goals as goal
 
 pub returns-in_err-line-clause-told : goal.returns-in_err-line-clause-told
@@ -22,19 +20,12 @@ returns-in_err-line-clause-told c =
     let is = p.1 ∙ ap Err (p.2 ∙ h.1) in
     subst (λ (r : Result (Unit {0}) Located). Turned Done (items_plan S) from r to s s) (sym is) (item_absent S from to s s h.0)
 
-pub returns-in-Ok-clause-told : goal.returns-in-Ok-clause-told
-returns-in-Ok-clause-told c =
-    let S = setting c.args.desk.now (length c.args.words.now) (length c.args.runs.now) in
-    let h = c.in_ok-line.ensures in
-    item_goes S c.args.cursor.now c.next.new.self c.args.sheet.now c.set_item.new.sheet (line_of c.in_ok-line.line) tt h.0 h.1 c.in-Ok.ensures.asked
-
-pub returns-in-Err-clause-told : goal.returns-in-Err-clause-told
-returns-in-Err-clause-told c =
+pub returns-clause-told : goal.returns-clause-told
+returns-clause-told c =
     let S = setting c.args.desk.now (length c.args.words.now) (length c.args.runs.now) in
     let s = c.args.sheet.now in
     let t = c.set_item.new.sheet in
     let from = c.args.cursor.now in
     let to = c.next.new.self in
     let h = c.in_ok-line.ensures in
-    let here : c.behind.result ≡ at_line (number from) c.in-Err.fault = c.behind.ensures ∙ ap (λ (k : ℕ). at_line k c.in-Err.fault) (omega (arith, h.1)) in
-    subst (λ (x : Located). Turned Done (items_plan S) from (Err x) to s t) (sym here) (item_stops S from to s t (line_of c.in_ok-line.line) c.in-Err.fault h.0 c.in-Err.ensures.asked)
+    subst (λ (r : Result (Unit {0}) Located). Turned Done (items_plan S) from r to s t) (sym c.judge.ensures) (item_set S from to s t (line_of c.in_ok-line.line) c.set_item.result h.0 h.1 c.set_item.ensures.asked)

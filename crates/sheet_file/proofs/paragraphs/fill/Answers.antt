@@ -1,46 +1,52 @@
-use Rattle.std.proofs.Common.{◌≡◌, length, Some, sym, ap, ◌∙◌, subst}
-use Rattle.items.specs.declared.faults.FileFault.{FileFault}
-use Rattle.items.specs.declared.faults.FileFault.TheVariants.{Refused}
-use Rattle.items.specs.declared.faults.SheetFault.{SheetFault}
+use Rattle.std.proofs.Common.{◌≡◌, rules, length, Err, Result, sym, ap, ◌∙◌, subst}
+use Rattle.std.proofs.lemmas.Result.{err_from_is_err_and}
+use Rattle.rules.specs.Runs.{opens}
+use Rattle.sheet.specs.declared.slips.Slip.{Slip}
+use Rattle.rules.specs.declared.refusals.Refusal.{Refusal}
+use Rattle.sheet.specs.Stores.{open_answer}
+use Rattle.sheet.specs.Sheets.{Tells}
 use Rattle.items.specs.declared.faults.Located.{Located}
-use Rattle.items.specs.Faults.{setback, at_line}
 use Rattle.items.specs.Spares.{Spares}
 use Rattle.items.proofs.Sparing.{stays_is, spares_then}
 use Rattle.sheet_file.specs.Cursors.{ahead}
 use Rattle.sheet_file.specs.Desks.{setting}
 use Rattle.sheet_file.specs.Done.{fault_in, ParaDone, Goes}
 use Rattle.sheet_file.specs.Plans.{para_of}
-use Rattle.sheet_file.proofs.ParaByPara.{para_refused, para_ended}
+use Rattle.sheet_file.proofs.ParaByPara.{opening_is, para_unopened, para_ended}
 use Rattle.sheet_file.proofs.paragraphs.fill.Goals as goal
 
-pub returns-in-Err-clause-told : goal.returns-in-Err-clause-told
-returns-in-Err-clause-told c =
+pub returns-in_err-slip-clause-told : goal.returns-in_err-slip-clause-told
+returns-in_err-slip-clause-told c =
     let S = setting c.args.desk.now (length c.args.words.now) (length c.args.runs.now) in
     let from = c.args.cursor.now in
     let P = para_of S from.read c.args.head (ahead from) in
     let s = c.args.sheet.now in
-    let t = c.open.new.self in
-    let e = c.in-Err.refusal in
-    let why : c.from-in-Err.result ≡ Refused (setback e 0) = c.from-in-Err.ensures ∙ ap (λ (f : SheetFault). Refused f) c.from.ensures in
-    let is : c.behind.result ≡ at_line from.read (Refused (setback e 0)) = c.behind.ensures ∙ ap (λ (f : FileFault). at_line from.read f) why in
-    subst (λ (x : Located). Goes (λ es fs. ParaDone P es fs (Some x)) s t) (sym is) (para_refused P c.margins.result c.margins.ensures s t e c.in-Err.ensures.account)
+    let t = c.open-opened.new.self in
+    let x = c.in_err-slip.field-0.0 in
+    let p = err_from_is_err_and c.from_residual.result c.from_residual.ensures.1 in
+    let is : c.from_residual.result ≡ Err x = p.1 ∙ ap Err p.2 in
+    subst (λ (r : Result (Unit {0}) Located). Goes (λ es fs. ParaDone P es fs (fault_in r)) s t) (sym is)
+    (para_unopened c.map_err.result _ (λ e f h. search rules) P c.margins.result c.margins.ensures s t c.open-opened.result x c.map_err.ensures.cases c.in_err-slip.ensures c.open-opened.ensures.account)
 
-pub returns-in-Ok-clause-spares : goal.returns-in-Ok-clause-spares
-returns-in-Ok-clause-spares c =
+pub returns-clause-spares : goal.returns-clause-spares
+returns-clause-spares c =
     let s = c.args.sheet.now in
-    let t = c.open.new.self in
+    let t = c.open-opened.new.self in
     let u = c.set_items-done.new.sheet in
     let v = c.spend.new.sheet in
-    let opening : Spares s t = record { list = c.open.ensures.rest; rows = stays_is s.store.rows t.store.rows c.open.ensures.memory.0 } in
-    spares_then s u v (spares_then s t u opening c.set_items-done.ensures.spares) c.spend.ensures.spares
+    let opening : Spares s t = record { list = c.open-opened.ensures.rest; rows = stays_is s.store.rows t.store.rows c.open-opened.ensures.memory.0 } in
+    spares_then s u v (spares_then s t u opening c.set_items-done.ensures.keeps.spares) c.spend.ensures.spares
 
-pub returns-in-Ok-clause-told : goal.returns-in-Ok-clause-told
-returns-in-Ok-clause-told c =
+pub returns-clause-told : goal.returns-clause-told
+returns-clause-told c =
     let S = setting c.args.desk.now (length c.args.words.now) (length c.args.runs.now) in
     let from = c.args.cursor.now in
     let P = para_of S from.read c.args.head (ahead from) in
     let s = c.args.sheet.now in
-    let t = c.open.new.self in
+    let t = c.open-opened.new.self in
     let u = c.set_items-done.new.sheet in
     let v = c.spend.new.sheet in
-    para_ended P c.margins.result c.margins.ensures s t c.in-Ok.slip.number (fault_in c.set_items-done.result) u v c.in-Ok.ensures.account c.set_items-done.ensures.told c.spend.ensures.told
+    let own = c.in_ok-slip.slip in
+    let is = opening_is c.map_err.result _ (λ e f h. search rules) from.read c.open-opened.result own c.map_err.ensures.cases c.in_ok-slip.ensures in
+    let told = subst (λ (r : Result Slip Refusal). Tells (opens c.margins.result P.clear) (open_answer r) s t) is c.open-opened.ensures.account in
+    para_ended P c.margins.result c.margins.ensures s t own.number (fault_in c.set_items-done.result) u v told c.set_items-done.ensures.told c.spend.ensures.told

@@ -13,41 +13,41 @@ use Rattle.sheet_file.proofs.paragraphs.set_paragraphs.Goals as goal
 
 pub returns-in_err-next_paragraph-clause-spares : goal.returns-in_err-next_paragraph-clause-spares
 returns-in_err-next_paragraph-clause-spares c =
-    spares_then c.args.sheet.now c.loop-set.sheet c.next_paragraph.new.sheet c.loop-set.invariant.0 c.next_paragraph.ensures.spares
+    spares_then c.args.sheet.now c.loop.sheet c.next_paragraph.new.sheet c.loop.invariant.0 c.next_paragraph.ensures.spares
 
 pub returns-in_err-next_paragraph-clause-told : goal.returns-in_err-next_paragraph-clause-told
 returns-in_err-next_paragraph-clause-told c =
     let S = setting c.args.desk.now (length c.args.words.now) (length c.args.runs.now) in
     let s = c.args.sheet.now in
-    let t = c.loop-set.sheet in
+    let t = c.loop.sheet in
     let u = c.next_paragraph.new.sheet in
-    let from = c.loop-set.cursor in
+    let from = c.loop.cursor in
     let to = c.next_paragraph.new.cursor in
     let I = paras_plan S c.args.count (number c.args.cursor.now) (ahead c.args.cursor.now) in
     let x = c.in_err-next_paragraph.field-0.0 in
     let p = err_from_is_err_and c.from_residual.result c.from_residual.ensures.1 in
     let is : c.from_residual.result ≡ Err x = p.1 ∙ ap Err p.2 in
-    let told : Turned ParasDone (paras_plan S) from (Err x) to t u = subst₂ (λ (j k : ℕ). Turned ParasDone (paras_plan (setting c.args.desk.now j k)) from (Err x) to t u) c.loop-set.auto.words c.loop-set.auto.runs c.in_err-next_paragraph.ensures.told in
-    subst (λ (r : Result (Unit {0}) Located). Goes (λ es fs. ParasDone I es fs (fault_in r)) s u) (sym is) (turns_stop ParasDone (paras_plan S) I c.args.count c.loop-set.set from to s t u c.loop-set.invariant.1 x c.loop-set-test.true told)
+    let told : Turned ParasDone (paras_plan S) from (Err x) to t u = subst₂ (λ (j k : ℕ). Turned ParasDone (paras_plan (setting c.args.desk.now j k)) from (Err x) to t u) c.loop.auto.words c.loop.auto.runs c.in_err-next_paragraph.ensures.told in
+    subst (λ (r : Result (Unit {0}) Located). Goes (λ es fs. ParasDone I es fs (fault_in r)) s u) (sym is) (turns_stop ParasDone (paras_plan S) I c.args.count c.loop.counter from to s t u c.loop.invariant.1 x c.loop-test.true told)
 
-pub loop-set-preserved : goal.loop-set-preserved
-loop-set-preserved c =
+pub loop-preserved : goal.loop-preserved
+loop-preserved c =
     let S = setting c.args.desk.now (length c.args.words.now) (length c.args.runs.now) in
     let s = c.args.sheet.now in
-    let t = c.loop-set.sheet in
+    let t = c.loop.sheet in
     let u = c.next_paragraph.new.sheet in
-    let from = c.loop-set.cursor in
+    let from = c.loop.cursor in
     let to = c.next_paragraph.new.cursor in
     let I = paras_plan S c.args.count (number c.args.cursor.now) (ahead c.args.cursor.now) in
-    let told : Turned ParasDone (paras_plan S) from (Ok tt) to t u = subst₂ (λ (j k : ℕ). Turned ParasDone (paras_plan (setting c.args.desk.now j k)) from (Ok tt) to t u) c.loop-set.auto.words c.loop-set.auto.runs c.in_ok-next_paragraph.ensures.told in (
-      spares_then s t u c.loop-set.invariant.0 c.next_paragraph.ensures.spares,
-      turns_more ParasDone (paras_plan S) I c.args.count c.loop-set.set from to s t u c.loop-set.invariant.1 tt c.loop-set-test.true told,
+    let told : Turned ParasDone (paras_plan S) from (Ok tt) to t u = subst₂ (λ (j k : ℕ). Turned ParasDone (paras_plan (setting c.args.desk.now j k)) from (Ok tt) to t u) c.loop.auto.words c.loop.auto.runs c.in_ok-next_paragraph.ensures.told in (
+      spares_then s t u c.loop.invariant.0 c.next_paragraph.ensures.spares,
+      turns_more ParasDone (paras_plan S) I c.args.count c.loop.counter from to s t u c.loop.invariant.1 tt c.loop-test.true told,
     )
 
 pub returns-clause-told : goal.returns-clause-told
 returns-clause-told c =
     let S = setting c.args.desk.now (length c.args.words.now) (length c.args.runs.now) in
     let I = paras_plan S c.args.count (number c.args.cursor.now) (ahead c.args.cursor.now) in
-    let from = c.loop-set.cursor in
-    let t = c.loop-set.sheet in
-    turns_all ParasDone (paras_plan S) I c.args.count c.loop-set.set from from c.args.sheet.now t t c.loop-set.invariant.1 (fault_in c.end.result) c.loop-set-test.false (paras_set S (number from) (ahead from) t (fault_in c.end.result) c.end.ensures)
+    let from = c.loop.cursor in
+    let t = c.loop.sheet in
+    turns_all ParasDone (paras_plan S) I c.args.count c.loop.counter from from c.args.sheet.now t t c.loop.invariant.1 (fault_in c.end.result) c.loop-test.false (paras_set S (number from) (ahead from) t (fault_in c.end.result) c.end.ensures)
