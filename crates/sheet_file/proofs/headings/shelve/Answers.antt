@@ -1,10 +1,7 @@
-use Rattle.std.proofs.Common.{◌≡◌, ℕ, [], Err, Result, sym, ap, ◌∙◌, subst, arith}
+use Rattle.std.proofs.Common.{◌≡◌, ℕ, [], subst, arith}
 use Rattle.std.proofs.lemmas.Result.{err_from_is_err_and}
 use Rattle.shapes.specs.Models.{stairs_model}
-use Rattle.items.specs.declared.faults.Located.{Located}
-use Rattle.items.specs.declared.shelves.Shelf.{Shelf}
 use Rattle.items.specs.Shelves.{kept}
-use Rattle.sheet_file.specs.Bodies.{ShelfTold}
 use Rattle.sheet_file.specs.Cursors.{ahead, number}
 use Rattle.sheet_file.specs.Plans.{stairs_of, shapes_plan}
 use Rattle.sheet_file.specs.Turns.{Forward}
@@ -18,9 +15,7 @@ returns-in_err-stairs c =
     let here = c.loop.cursor in
     let x = c.in_err-stairs.field-0.0 in
     let p = err_from_is_err_and c.from_residual.result c.from_residual.ensures.1 in
-    let is : c.from_residual.result ≡ Err x = p.1 ∙ ap Err p.2 in
-    subst (λ (r : Result Shelf Located). ShelfTold c.args.count from r c.next_stairs.new.cursor) (sym is)
-    (shapes_stop (shapes_plan c.args.count (number from) (ahead from) []) c.args.count c.loop.counter (number here) (ahead here) (kept c.loop.shelf) c.loop.invariant.2 x c.loop-test.true c.in_err-stairs.ensures)
+    rw (p.1, p.2) (shapes_stop (shapes_plan c.args.count (number from) (ahead from) []) c.args.count c.loop.counter (number here) (ahead here) (kept c.loop.shelf) c.loop.invariant.2 x c.loop-test.true c.in_err-stairs.ensures)
 
 pub loop-preserved : goal.loop-preserved
 loop-preserved c =

@@ -1,11 +1,7 @@
-use Rattle.std.proofs.Common.{length, Err, Result, sym, ap, ◌∙◌, subst}
+use Rattle.std.proofs.Common.{length}
 use Rattle.std.proofs.lemmas.Result.{err_from_is_err_and}
 use Rattle.lexer.specs.LinesLeft.{line_of}
-use Rattle.items.specs.declared.faults.Located.{Located}
 use Rattle.sheet_file.specs.Desks.{setting}
-use Rattle.sheet_file.specs.Done.{Done}
-use Rattle.sheet_file.specs.Plans.{items_plan}
-use Rattle.sheet_file.specs.Turns.{Turned}
 use Rattle.sheet_file.proofs.ItemByItem.{item_set, item_absent}
 use Rattle.sheet_file.proofs.paragraph_items.next_item.Goals as goal
 
@@ -17,8 +13,7 @@ returns-in_err-line-clause-told c =
     let to = c.next.new.self in
     let p = err_from_is_err_and c.from_residual.result c.from_residual.ensures.1 in
     let h = c.in_err-line.ensures in
-    let is = p.1 ∙ ap Err (p.2 ∙ h.1) in
-    subst (λ (r : Result (Unit {0}) Located). Turned Done (items_plan S) from r to s s) (sym is) (item_absent S from to s s h.0)
+    rw (p.1, p.2, h.1) (item_absent S from to s s h.0)
 
 pub returns-clause-told : goal.returns-clause-told
 returns-clause-told c =
@@ -28,4 +23,4 @@ returns-clause-told c =
     let from = c.args.cursor.now in
     let to = c.next.new.self in
     let h = c.in_ok-line.ensures in
-    subst (λ (r : Result (Unit {0}) Located). Turned Done (items_plan S) from r to s t) (sym c.judge.ensures) (item_set S from to s t (line_of c.in_ok-line.line) c.set_item.result h.0 h.1 c.set_item.ensures.asked)
+    rw c.judge.ensures (item_set S from to s t (line_of c.in_ok-line.line) c.set_item.result h.0 h.1 c.set_item.ensures.asked)

@@ -1,10 +1,9 @@
-use Rattle.std.proofs.Common.{◌≡◌, ℕ, length, None, Ok, Err, Result, sym, ap, ◌∙◌, subst, subst₂, arith}
+use Rattle.std.proofs.Common.{◌≡◌, ℕ, length, None, Ok, Err, subst₂, arith}
 use Rattle.std.proofs.lemmas.Result.{err_from_is_err_and}
-use Rattle.items.specs.declared.faults.Located.{Located}
 use Rattle.items.proofs.Sparing.{keeps_then}
 use Rattle.sheet_file.specs.Cursors.{ahead, number}
 use Rattle.sheet_file.specs.Desks.{setting}
-use Rattle.sheet_file.specs.Done.{fault_in, Done, Goes}
+use Rattle.sheet_file.specs.Done.{Done}
 use Rattle.sheet_file.specs.Plans.{items_plan}
 use Rattle.sheet_file.specs.Turns.{Turned}
 use Rattle.sheet_file.proofs.Going.{turns_more, turns_stop, turns_all, forward_then}
@@ -26,9 +25,8 @@ returns-in_err-next_item-clause-told c =
     let I = items_plan S c.args.count (number c.args.cursor.now) (ahead c.args.cursor.now) in
     let x = c.in_err-next_item.field-0.0 in
     let p = err_from_is_err_and c.from_residual.result c.from_residual.ensures.1 in
-    let is : c.from_residual.result ≡ Err x = p.1 ∙ ap Err p.2 in
     let told : Turned Done (items_plan S) from (Err x) to t u = subst₂ (λ (j k : ℕ). Turned Done (items_plan (setting c.args.desk.now j k)) from (Err x) to t u) c.loop.auto.words c.loop.auto.runs c.in_err-next_item.ensures.told in
-    subst (λ (r : Result (Unit {0}) Located). Goes (λ es fs. Done I es fs (fault_in r)) s u) (sym is) (turns_stop Done (items_plan S) I c.args.count c.loop.counter from to s t u c.loop.invariant.2 x c.loop-test.true told)
+    rw (p.1, p.2) (turns_stop Done (items_plan S) I c.args.count c.loop.counter from to s t u c.loop.invariant.2 x c.loop-test.true told)
 
 pub loop-preserved : goal.loop-preserved
 loop-preserved c =

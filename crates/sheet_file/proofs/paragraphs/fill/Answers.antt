@@ -1,16 +1,15 @@
-use Rattle.std.proofs.Common.{◌≡◌, rules, length, Err, Result, sym, ap, ◌∙◌, subst}
+use Rattle.std.proofs.Common.{rules, length, Result, subst}
 use Rattle.std.proofs.lemmas.Result.{err_from_is_err_and}
 use Rattle.rules.specs.Runs.{opens}
 use Rattle.sheet.specs.declared.slips.Slip.{Slip}
 use Rattle.rules.specs.declared.refusals.Refusal.{Refusal}
 use Rattle.sheet.specs.Stores.{open_answer}
 use Rattle.sheet.specs.Sheets.{Tells}
-use Rattle.items.specs.declared.faults.Located.{Located}
 use Rattle.items.specs.Spares.{Spares}
 use Rattle.items.proofs.Sparing.{stays_is, spares_then}
 use Rattle.sheet_file.specs.Cursors.{ahead}
 use Rattle.sheet_file.specs.Desks.{setting}
-use Rattle.sheet_file.specs.Done.{fault_in, ParaDone, Goes}
+use Rattle.sheet_file.specs.Done.{fault_in}
 use Rattle.sheet_file.specs.Plans.{para_of}
 use Rattle.sheet_file.proofs.ParaByPara.{opening_is, para_unopened, para_ended}
 use Rattle.sheet_file.proofs.paragraphs.fill.Goals as goal
@@ -24,9 +23,7 @@ returns-in_err-slip-clause-told c =
     let t = c.open-opened.new.self in
     let x = c.in_err-slip.field-0.0 in
     let p = err_from_is_err_and c.from_residual.result c.from_residual.ensures.1 in
-    let is : c.from_residual.result ≡ Err x = p.1 ∙ ap Err p.2 in
-    subst (λ (r : Result (Unit {0}) Located). Goes (λ es fs. ParaDone P es fs (fault_in r)) s t) (sym is)
-    (para_unopened c.map_err.result _ (λ e f h. search rules) P c.margins.result c.margins.ensures s t c.open-opened.result x c.map_err.ensures.cases c.in_err-slip.ensures c.open-opened.ensures.account)
+    rw (p.1, p.2) (para_unopened c.map_err.result _ (λ e f h. search rules) P c.margins.result c.margins.ensures s t c.open-opened.result x c.map_err.ensures.cases c.in_err-slip.ensures c.open-opened.ensures.account)
 
 pub returns-clause-spares : goal.returns-clause-spares
 returns-clause-spares c =

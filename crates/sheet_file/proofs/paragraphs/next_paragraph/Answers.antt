@@ -1,10 +1,6 @@
-use Rattle.std.proofs.Common.{◌≡◌, length, Err, Result, sym, ap, ◌∙◌, subst}
+use Rattle.std.proofs.Common.{length}
 use Rattle.std.proofs.lemmas.Result.{err_from_is_err_and}
-use Rattle.items.specs.declared.faults.Located.{Located}
 use Rattle.sheet_file.specs.Desks.{setting}
-use Rattle.sheet_file.specs.Done.{ParasDone}
-use Rattle.sheet_file.specs.Plans.{paras_plan}
-use Rattle.sheet_file.specs.Turns.{Turned}
 use Rattle.sheet_file.proofs.ParaByPara.{para_filled, para_unread}
 use Rattle.sheet_file.proofs.paragraphs.next_paragraph.Goals as goal
 
@@ -16,8 +12,7 @@ returns-in_err-head-clause-told c =
     let to = c.next_heading.new.cursor in
     let x = c.in_err-head.field-0.0 in
     let p = err_from_is_err_and c.from_residual.result c.from_residual.ensures.1 in
-    let is : c.from_residual.result ≡ Err x = p.1 ∙ ap Err p.2 in
-    subst (λ (r : Result (Unit {0}) Located). Turned ParasDone (paras_plan S) from r to s s) (sym is) (para_unread S from to s x c.in_err-head.ensures)
+    rw (p.1, p.2) (para_unread S from to s x c.in_err-head.ensures)
 
 pub returns-clause-told : goal.returns-clause-told
 returns-clause-told c =

@@ -1,10 +1,9 @@
-use Rattle.std.proofs.Common.{◌≡◌, ℕ, length, Ok, Err, Result, sym, ap, ◌∙◌, subst, subst₂}
+use Rattle.std.proofs.Common.{ℕ, length, Ok, Err, subst₂}
 use Rattle.std.proofs.lemmas.Result.{err_from_is_err_and}
-use Rattle.items.specs.declared.faults.Located.{Located}
 use Rattle.items.proofs.Sparing.{spares_then}
 use Rattle.sheet_file.specs.Cursors.{ahead, number}
 use Rattle.sheet_file.specs.Desks.{setting}
-use Rattle.sheet_file.specs.Done.{fault_in, ParasDone, Goes}
+use Rattle.sheet_file.specs.Done.{fault_in, ParasDone}
 use Rattle.sheet_file.specs.Plans.{paras_plan}
 use Rattle.sheet_file.specs.Turns.{Turned}
 use Rattle.sheet_file.proofs.Going.{turns_more, turns_stop, turns_all}
@@ -26,9 +25,8 @@ returns-in_err-next_paragraph-clause-told c =
     let I = paras_plan S c.args.count (number c.args.cursor.now) (ahead c.args.cursor.now) in
     let x = c.in_err-next_paragraph.field-0.0 in
     let p = err_from_is_err_and c.from_residual.result c.from_residual.ensures.1 in
-    let is : c.from_residual.result ≡ Err x = p.1 ∙ ap Err p.2 in
     let told : Turned ParasDone (paras_plan S) from (Err x) to t u = subst₂ (λ (j k : ℕ). Turned ParasDone (paras_plan (setting c.args.desk.now j k)) from (Err x) to t u) c.loop.auto.words c.loop.auto.runs c.in_err-next_paragraph.ensures.told in
-    subst (λ (r : Result (Unit {0}) Located). Goes (λ es fs. ParasDone I es fs (fault_in r)) s u) (sym is) (turns_stop ParasDone (paras_plan S) I c.args.count c.loop.counter from to s t u c.loop.invariant.1 x c.loop-test.true told)
+    rw (p.1, p.2) (turns_stop ParasDone (paras_plan S) I c.args.count c.loop.counter from to s t u c.loop.invariant.1 x c.loop-test.true told)
 
 pub loop-preserved : goal.loop-preserved
 loop-preserved c =

@@ -1,6 +1,5 @@
-use Rattle.std.proofs.Common.{◌≡◌, length, Some, Err, Result, sym, ap, ◌∙◌, subst}
+use Rattle.std.proofs.Common.{◌≡◌, length, Some, sym, ap, subst}
 use Rattle.std.proofs.lemmas.Result.{err_from_is_err_and}
-use Rattle.items.specs.declared.faults.Located.{Located}
 use Rattle.sheet_file.specs.Cursors.{ahead}
 use Rattle.sheet_file.specs.Done.{fault_in, ParasDone, all_ended, Goes}
 use Rattle.sheet_file.specs.Plans.{Paras, no_paras, body_of, body_plan}
@@ -12,10 +11,8 @@ returns-in_err-body-clause-told c =
     let B = body_of c.args.width (length c.args.words.now) (length c.args.runs.now) (ahead c.args.cursor.now) in
     let x = c.in_err-body.field-0.0 in
     let p = err_from_is_err_and c.from_residual.result c.from_residual.ensures.1 in
-    let is : c.from_residual.result ≡ Err x = p.1 ∙ ap Err p.2 in
     let none : body_plan B ≡ no_paras (Some x) = ap body_plan (c.in_err-body.ensures (length c.args.words.now) (length c.args.runs.now)) in
-    let here : Goes (λ es fs. ParasDone (body_plan B) es fs (Some x)) s s = λ z past h. (past, h, subst (λ (P : Paras). ParasDone P past past (Some x)) (sym none) all_ended) in
-    subst (λ (r : Result (Unit {0}) Located). Goes (λ es fs. ParasDone (body_plan B) es fs (fault_in r)) s s) (sym is) here
+    rw (p.1, p.2) (λ z past h. (past, h, subst (λ (P : Paras). ParasDone P past past (Some x)) (sym none) all_ended))
 
 pub returns-clause-told : goal.returns-clause-told
 returns-clause-told c =
