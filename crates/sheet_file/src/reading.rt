@@ -7,8 +7,8 @@ ghost use Rattle.sheet_file.specs.Laid.{Laid};
 ghost use Rattle.sheet_file.specs.Plans.{body_of, body_plan, no_size, stopped, file_plan};
 
 use crate::cursors::Cursor;
-use crate::headings::{next_body, next_size};
-use crate::paragraphs::set_paragraphs;
+use crate::headings::{Body, next_body, next_size};
+use crate::setters::Setter;
 use items::faults::{FileFault, Located};
 use reaches::reach::Reach;
 use rules::boxes::BoxRecord;
@@ -30,16 +30,24 @@ pub struct Reading<'a> {
 fn lay_out(
     sheet: &mut Sheet<'_>,
     width: u32,
-    cursor: &mut Cursor<'_>,
+    lines: Cursor<'_>,
     words: &mut [Word],
     runs: &mut [Run],
 ) -> Result<(), Located>
-    requires { number cursor.old ≡ 2 }
+    requires { number lines ≡ 2 }
     ensures spares { Spares sheet.old sheet.new }
-    ensures told { Goes (λ es fs. ParasDone (body_plan (body_of width (length words.old) (length runs.old) (ahead cursor.old))) es fs (fault_in result)) sheet.old sheet.new }
+    ensures told { Goes (λ es fs. ParasDone (body_plan (body_of width (length words.old) (length runs.old) (ahead lines.entry))) es fs (fault_in result)) sheet.old sheet.new }
 {
-    let body = next_body(width, cursor)?;
-    set_paragraphs(sheet, &body.desk, cursor, body.count, words, runs)
+    let mut cursor = lines;
+    let Body { desk, count } = next_body(width, &mut cursor)?;
+    let mut setter = Setter {
+        sheet,
+        desk,
+        cursor,
+        words,
+        runs,
+    };
+    setter.set_paragraphs(count)
 }
 
 // A file without a sheet: one without rows is made, and nothing is written.
@@ -78,7 +86,7 @@ pub fn read<'a>(
     let width = u32::from(size.width);
     let height = u32::from(size.height);
     let mut sheet = Sheet::new(width, height, u32::from(size.line), cells, list);
-    let done = lay_out(&mut sheet, width, &mut cursor, words, runs);
+    let done = lay_out(&mut sheet, width, cursor, words, runs);
     Reading {
         list: sheet.finish(),
         fault: done.err(),
