@@ -22,7 +22,8 @@ use Rattle.items.specs.Onward.{onward}
 use Rattle.items.specs.declared.faults.FileFault.TheVariants.{Form as BadForm}
 use Rattle.lexer.specs.declared.faults.Fault.{Fault}
 use Rattle.lexer.specs.Lines.{FileLine}
-use Rattle.lines.specs.Items.{ItemForm, item_form}
+use Rattle.lines.specs.declared.items.Item.{Item}
+use Rattle.lines.specs.Items.{ItemForm, item_form, item_of}
 
 pub asked_panel : (d : Side) (c : Clear) (o : Option Form) (f : Form) (a : Answer) (r : Result (Unit {0}) FileFault) (s t : Sheet)
     → o ≡ Some f → Tells (panels (wanted d c f)) a s t → r ≡ judged a → Asked (panel_call d c o) r s t
@@ -41,12 +42,16 @@ asked_text adv text words runs t a r s u none which space told how =
     subst (λ (o : Option TextFault). Asked (unless o (flows (advances_of adv text) (adv space_byte) 0)) r s u) (sym none)
     (a, subst₂ (λ (ws : List ℕ) (sp : ℕ). Tells (flows ws sp 0) a s u) are space told, how)
 
--- the line of an item, once it is read
-module _ (adv : ℕ → ℕ) (fs : List Form) (records cells : ℕ) (l : FileLine) (r : Result (Unit {0}) FileFault) (s t : Sheet) where
-  pub asked_item : (i : ItemForm) → item_form (length fs) l ≡ Ok i → Asked (call_of adv fs records cells i) r s t → Asked (item_call adv fs records cells l) r s t
+-- the line of an item, once it is read against k shapes, as many as the file names
+module _ (adv : ℕ → ℕ) (fs : List Form) (records cells : ℕ) (l : FileLine) (r : Result (Unit {0}) FileFault) (s t : Sheet) (k : ℕ) (all : k ≡ length fs) where
+  pub asked_item : (x : Item) (i : ItemForm) → Ok (item_of x) ≡ item_form k l → item_of x ≡ i → Asked (call_of adv fs records cells i) r s t → Asked (item_call adv fs records cells l) r s t
   unfolding item_call
-  asked_item i is a = subst (λ (x : Result ItemForm Fault). Asked (onward BadForm x (call_of adv fs records cells)) r s t) (sym is) a
+  asked_item x i read is a =
+      let said : item_form (length fs) l ≡ Ok i = ap (λ (n : ℕ). item_form n l) (sym all) ∙ sym read ∙ ap Ok is in
+      subst (λ (y : Result ItemForm Fault). Asked (onward BadForm y (call_of adv fs records cells)) r s t) (sym said) a
 
-  pub asked_nothing : (e : Fault) → item_form (length fs) l ≡ Err e → r ≡ Err (BadForm e) → t ≡ s → Asked (item_call adv fs records cells l) r s t
+  pub asked_nothing : (e : Fault) → Err e ≡ item_form k l → r ≡ Err (BadForm e) → t ≡ s → Asked (item_call adv fs records cells l) r s t
   unfolding item_call
-  asked_nothing e is told same = subst (λ (x : Result ItemForm Fault). Asked (onward BadForm x (call_of adv fs records cells)) r s t) (sym is) (told, ap fields same)
+  asked_nothing e read told same =
+      let said : item_form (length fs) l ≡ Err e = ap (λ (n : ℕ). item_form n l) (sym all) ∙ sym read in
+      subst (λ (y : Result ItemForm Fault). Asked (onward BadForm y (call_of adv fs records cells)) r s t) (sym said) (told, ap fields same)

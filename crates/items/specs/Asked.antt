@@ -1,5 +1,4 @@
 -- What becomes of a call that a line asks for. Assumes nothing.
---     raised r        a fault of the sheet as one of the file
 --     judged a        the fault that the answer a is, if it refuses anything
 --     Asked x r s t   where x is a call: it led from s to t, and r tells whether it was refused;
 --                     where x is a fault: r is that fault, and no call was made
@@ -7,14 +6,9 @@ use Rattle.std.specs.Prelude.{◌≡◌, Some, None, Ok, Err, Result}
 use Rattle.rules.specs.Runs.{Call, Answer, opened, flowed, stands, ended, refused}
 use Rattle.sheet.specs.declared.sheet.Sheet.{Sheet}
 use Rattle.sheet.specs.Sheets.{fields, Tells}
-use Rattle.items.specs.declared.faults.SheetFault.{SheetFault}
 use Rattle.items.specs.declared.faults.FileFault.{FileFault}
 use Rattle.items.specs.declared.faults.FileFault.TheVariants.{Refused}
 use Rattle.items.specs.Faults.{setback}
-
-abbrev pub raised : Result (Unit {0}) SheetFault → Result (Unit {0}) FileFault
-raised (Ok u) = Ok u
-raised (Err f) = Err (Refused f)
 
 abbrev pub judged : Answer → Result (Unit {0}) FileFault
 judged (opened n) = Ok tt

@@ -1,10 +1,12 @@
 // Why a sheet file is refused, and on which line.
 ghost use Rattle.std.specs.Prelude.{◌≡◌};
 ghost use Rattle.rules.specs.declared.refusals.Refusal.TheVariants.{NoShape};
+ghost use Rattle.text.specs.declared.faults.TextFault.TheVariants.{Metrics};
 ghost use Rattle.items.specs.declared.faults.FileFault.TheVariants.{Form, Measuring, Refused};
 ghost use Rattle.items.specs.Faults.{setback, cause_of, place_of};
 
 use lexer::faults::Fault;
+use metrics::Unfit;
 use rules::refusals::Refusal;
 use shapes::NoShape;
 use text::TextFault;
@@ -73,11 +75,35 @@ impl From<TextFault> for FileFault {
     }
 }
 
+impl From<Unfit> for FileFault {
+    ghost from_gives = { λ _ y. y ≡ Measuring Metrics };
+
+    fn from(unfit: Unfit) -> FileFault {
+        FileFault::Measuring(TextFault::from(unfit))
+    }
+}
+
 impl From<SheetFault> for FileFault {
     ghost from_gives = { λ x y. y ≡ Refused x };
 
     fn from(fault: SheetFault) -> FileFault {
         FileFault::Refused(fault)
+    }
+}
+
+impl From<Refusal> for FileFault {
+    ghost from_gives = { λ x y. y ≡ Refused (setback x 0) };
+
+    fn from(refusal: Refusal) -> FileFault {
+        FileFault::Refused(SheetFault::from(refusal))
+    }
+}
+
+impl From<NoShape> for FileFault {
+    ghost from_gives = { λ _ y. y ≡ Refused (setback NoShape 0) };
+
+    fn from(refusal: NoShape) -> FileFault {
+        FileFault::Refused(SheetFault::from(refusal))
     }
 }
 

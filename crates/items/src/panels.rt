@@ -1,15 +1,13 @@
 // A panel that a line asks for.
-ghost use Rattle.std.specs.Prelude.{◌≡◌};
 ghost use Rattle.std.specs.List.{slice_get};
 ghost use Rattle.shapes.specs.Box.{make_box};
 ghost use Rattle.shapes.specs.Made.{answered};
-ghost use Rattle.sheet.specs.Sheets.{open_number};
-ghost use Rattle.items.specs.Asked.{raised, Asked};
+ghost use Rattle.items.specs.Asked.{Asked};
 ghost use Rattle.items.specs.Calls.{panel_call};
 ghost use Rattle.items.specs.Shelves.{kept};
-ghost use Rattle.items.specs.Spares.{Spares};
+ghost use Rattle.items.specs.Spares.{Keeps};
 
-use crate::faults::{FileFault, SheetFault};
+use crate::faults::FileFault;
 use crate::shelves::Shelf;
 use lines::items::{PlainLine, ShapedLine};
 use shapes::orders::Order;
@@ -24,10 +22,9 @@ fn place<S: Shape + Drop>(
     shape: Result<S, NoShape>,
     side: Side,
     clear: Clear,
-) -> Result<(), SheetFault>
-    ensures number { open_number sheet.new ≡ open_number sheet.old }
-    ensures spares { Spares sheet.old sheet.new }
-    ensures asked { Asked (panel_call side clear (answered S.model shape)) (raised result) sheet.old sheet.new }
+) -> Result<(), FileFault>
+    ensures keeps { Keeps sheet.old sheet.new }
+    ensures asked { Asked (panel_call side clear (answered S.model shape)) result sheet.old sheet.new }
 {
     let shape = shape?;
     sheet.panel(Order { shape, side, clear })?;
@@ -36,13 +33,11 @@ fn place<S: Shape + Drop>(
 
 // A plain box.
 pub(crate) fn plain(sheet: &mut Sheet<'_>, panel: PlainLine) -> Result<(), FileFault>
-    ensures number { open_number sheet.new ≡ open_number sheet.old }
-    ensures spares { Spares sheet.old sheet.new }
+    ensures keeps { Keeps sheet.old sheet.new }
     ensures asked { Asked (panel_call panel.side panel.clear (make_box panel.width panel.height)) result sheet.old sheet.new }
 {
     let shape = Plain::new(u32::from(panel.width), u32::from(panel.height));
-    place(sheet, shape, panel.side, panel.clear)?;
-    Ok(())
+    place(sheet, shape, panel.side, panel.clear)
 }
 
 // One of the staircases that the file names.
@@ -51,11 +46,9 @@ pub(crate) fn shaped(
     shelf: &Shelf,
     panel: ShapedLine,
 ) -> Result<(), FileFault>
-    ensures number { open_number sheet.new ≡ open_number sheet.old }
-    ensures spares { Spares sheet.old sheet.new }
+    ensures keeps { Keeps sheet.old sheet.new }
     ensures asked { Asked (panel_call panel.side panel.clear (slice_get (kept shelf.now) panel.index)) result sheet.old sheet.new }
 {
     let shape = shelf.get(panel.index).ok_or(NoShape);
-    place(sheet, shape, panel.side, panel.clear)?;
-    Ok(())
+    place(sheet, shape, panel.side, panel.clear)
 }

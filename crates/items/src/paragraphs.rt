@@ -1,11 +1,10 @@
 // A line of a paragraph: what it asks for, and what comes of it.
-ghost use Rattle.std.specs.Prelude.{◌≡◌, length};
+ghost use Rattle.std.specs.Prelude.{length};
 ghost use Rattle.lexer.specs.LinesLeft.{line_of};
-ghost use Rattle.sheet.specs.Sheets.{open_number};
 ghost use Rattle.items.specs.Asked.{Asked};
 ghost use Rattle.items.specs.Items.{item_call};
 ghost use Rattle.items.specs.Shelves.{kept};
-ghost use Rattle.items.specs.Spares.{Spares};
+ghost use Rattle.items.specs.Spares.{Keeps};
 
 use crate::faults::FileFault;
 use crate::panels::{plain, shaped};
@@ -26,8 +25,7 @@ pub fn set_item<M: Metrics>(
     words: &mut [Word],
     runs: &mut [Run],
 ) -> Result<(), FileFault>
-    ensures number { open_number sheet.new ≡ open_number sheet.old }
-    ensures spares { Spares sheet.old sheet.new }
+    ensures keeps { Keeps sheet.old sheet.new }
     ensures asked { Asked (item_call (M.advances metrics.now) (kept shelf.now) (length words.old) (length runs.old) (line_of line.entry)) result sheet.old sheet.new }
 {
     let item = item_line(line, shelf.count())?;

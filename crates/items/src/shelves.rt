@@ -10,6 +10,7 @@ pub mod calls;
 pub const MOST_SHAPES: usize = 16;
 
 // The first `count` of `stairs`.
+// The count stands beside an array because a library has no heap and a shelf is copied, which the kit's `ArrayVec` is not.
 #[derive(Clone, Copy)]
 pub struct Shelf {
     stairs: [Stairs; MOST_SHAPES],

@@ -2,10 +2,9 @@
 ghost use Rattle.std.specs.Prelude.{◌≡◌, length, Option};
 ghost use Rattle.text.specs.Fault.{text_fault};
 ghost use Rattle.sheet.specs.Stores.{flow_answer};
-ghost use Rattle.sheet.specs.Sheets.{open_number};
-ghost use Rattle.items.specs.Asked.{raised, judged, Asked};
+ghost use Rattle.items.specs.Asked.{judged, Asked};
 ghost use Rattle.items.specs.Calls.{refusing, text_call};
-ghost use Rattle.items.specs.Spares.{Spares};
+ghost use Rattle.items.specs.Spares.{Keeps};
 
 use crate::faults::{FileFault, SheetFault};
 use metrics::advances::Metrics;
@@ -17,23 +16,18 @@ use text::{Run, TextFault, Word, fault, measure};
 fn accept(text: &[u8], words: &[Word], runs: &[Run]) -> Result<(), TextFault>
     ensures { result ≡ refusing (text_fault text.now (length words.now) (length runs.now)) }
 {
-    match fault(text, words, runs) {
-        None => Ok(()),
-        Some(fault) => Err(fault),
-    }
+    fault(text, words, runs).map_or(Ok(()), Err)
 }
 
 // Whether all words were set.
-fn complete(flowed: Flowed) -> Result<(), SheetFault>
-    ensures { raised result ≡ judged (flow_answer flowed) }
+fn complete(flowed: Flowed) -> Result<(), FileFault>
+    ensures { result ≡ judged (flow_answer flowed) }
 {
-    match flowed.stopped {
-        None => Ok(()),
-        Some(refusal) => Err(SheetFault {
-            refusal,
-            words: flowed.set,
-        }),
-    }
+    let words = flowed.set;
+    flowed.stopped.map_or(
+        Ok(()),
+        |refusal| Err(FileFault::from(SheetFault { refusal, words })),
+    )
 }
 
 // Measures the text and sets its words.
@@ -44,12 +38,10 @@ pub(crate) fn flow<M: Metrics>(
     words: &mut [Word],
     runs: &mut [Run],
 ) -> Result<(), FileFault>
-    ensures number { open_number sheet.new ≡ open_number sheet.old }
-    ensures spares { Spares sheet.old sheet.new }
+    ensures keeps { Keeps sheet.old sheet.new }
     ensures asked { Asked (text_call (M.advances metrics.now) (length words.old) (length runs.old) text.now) result sheet.old sheet.new }
 {
     accept(text, words, runs)?;
     let measured = measure(metrics, text, words, runs);
-    complete(sheet.flow(&measured, 0))?;
-    Ok(())
+    complete(sheet.flow(&measured, 0))
 }

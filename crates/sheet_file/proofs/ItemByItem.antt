@@ -12,7 +12,7 @@ use Rattle.sheet_file.specs.declared.cursors.Cursor.{Cursor}
 use Rattle.sheet_file.specs.Cursors.{ahead, number}
 use Rattle.sheet_file.specs.Plans.{Setting, Items, no_items, with_item, item_of, items_plan}
 use Rattle.sheet_file.specs.Done.{all_done, one_done, one_refused, Done, Goes}
-use Rattle.sheet_file.specs.Turns.{Leading, Turned}
+use Rattle.sheet_file.specs.Turns.{Leading, Turned, on_line}
 
 call_goes : (x : Result Call FileFault) (n : ℕ) (rest : ℕ → Items) (u : Unit {0}) (s t : Sheet) → Asked x (Ok u) s t → Goes (λ es ms. (k : ℕ) → Leading Done (with_item n x (rest k)) (rest k) es ms) s t
 call_goes (Ok c) n rest u s t h z past p = (event c h.0 ∷ past, (h.1 z past p).0, λ k fs o d. one_done (event c h.0) refl (sym h.2) d)
@@ -26,17 +26,24 @@ call_stops (Err g) n rest f s t h z past p =
     (past, subst (λ (v : View). Kept z past v) (sym h.1) p, λ k. subst (λ (y : FileFault). Done (no_items (Some (at_line n g))) past past (Some (at_line n y))) is all_done)
 
 module _ (S : Setting) (c d : Cursor) (s t : Sheet) where
-  pub item_goes : (l : FileLine) (u : Unit {0}) → ahead c ≡ l ∷ ahead d → number d ≡ number c + 1 → Asked (item_of S l) (Ok u) s t → Turned Done (items_plan S) c (Ok u) d s t
+  item_goes : (l : FileLine) (u : Unit {0}) → ahead c ≡ l ∷ ahead d → number d ≡ number c + 1 → Asked (item_of S l) (Ok u) s t → Turned Done (items_plan S) c (Ok u) d s t
   unfolding items_plan
   item_goes l u is on h =
       subst₂ (λ (ls : List FileLine) (n : ℕ). Goes (λ es ms. (k : ℕ) → Leading Done (items_plan S (suc k) (number c) ls) (items_plan S k n (ahead d)) es ms) s t) (sym is) (sym on)
       (call_goes (item_of S l) (number c) (λ k. items_plan S k (number c + 1) (ahead d)) u s t h)
 
-  pub item_stops : (l : FileLine) (f : FileFault) → ahead c ≡ l ∷ ahead d → Asked (item_of S l) (Err f) s t → Turned Done (items_plan S) c (Err (at_line (number c) f)) d s t
+  item_stops : (l : FileLine) (f : FileFault) → ahead c ≡ l ∷ ahead d → Asked (item_of S l) (Err f) s t → Turned Done (items_plan S) c (Err (at_line (number c) f)) d s t
   unfolding items_plan
   item_stops l f is h =
       subst (λ (ls : List FileLine). Goes (λ es fs. (k : ℕ) → Done (items_plan S (suc k) (number c) ls) es fs (Some (at_line (number c) f))) s t) (sym is)
       (call_stops (item_of S l) (number c) (λ k. items_plan S k (number c + 1) (ahead d)) f s t h)
+
+  -- what came of it, on its line
+  pub item_set : (l : FileLine) (r : Result (Unit {0}) FileFault) → ahead c ≡ l ∷ ahead d → number d ≡ number c + 1 → Asked (item_of S l) r s t → Turned Done (items_plan S) c (on_line d.read r) d s t
+  item_set l (Ok u) is on h = item_goes l u is on h
+  item_set l (Err f) is on h =
+      let here : number c ≡ d.read = omega (arith, on) in
+      subst (λ (n : ℕ). Turned Done (items_plan S) c (Err (at_line n f)) d s t) here (item_stops l f is h)
 
   pub item_absent : ahead c ≡ [] → Turned Done (items_plan S) c (Err (at_line (number c) Extent)) d s s
   unfolding items_plan

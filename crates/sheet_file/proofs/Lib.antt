@@ -3,3 +3,4 @@ pub mod ItemByItem
 pub mod ParaByPara
 pub mod ShapeByShape
 pub mod Lying
+pub mod Setting

@@ -1,12 +1,17 @@
 -- One paragraph after another. Assumes nothing.
 use Rattle.std.proofs.Common.{◌≡◌, ℕ, suc, ◌+◌, List, ◌∷◌, drop, IfOk, Some, None, Ok, Err, Option, Result, sym, ap, ◌∙◌, subst, subst₂, arith}
+use Rattle.std.specs.Result.{MatchResult, IsErrAnd}
+use Rattle.std.proofs.lemmas.Result.{err_from_is_err_and}
 use Rattle.lexer.specs.Lines.{FileLine}
 use Rattle.lines.specs.declared.paragraphs.ParaLine.{ParaLine}
 use Rattle.places.specs.declared.parts.Span.{Span}
 use Rattle.rules.specs.declared.refusals.Refusal.{Refusal}
 use Rattle.rules.specs.Runs.{event, opens, ends, opened, ended, refused}
 use Rattle.sheet.specs.declared.sheet.Sheet.{Sheet}
+use Rattle.sheet.specs.declared.slips.Slip.{Slip}
+use Rattle.sheet.specs.Stores.{open_answer}
 use Rattle.sheet.specs.Sheets.{Tells}
+use Rattle.items.specs.declared.faults.FileFault.{FileFault}
 use Rattle.items.specs.declared.faults.FileFault.TheVariants.{Refused}
 use Rattle.items.specs.declared.faults.Located.{Located}
 use Rattle.items.specs.Faults.{setback, at_line}
@@ -14,10 +19,10 @@ use Rattle.sheet_file.specs.declared.cursors.Cursor.{Cursor}
 use Rattle.sheet_file.specs.Cursors.{ahead, number}
 use Rattle.sheet_file.specs.Plans.{Setting, Para, Paras, no_paras, with_para, para_of, first_line, heading_of, headed, surplus, paras_plan}
 use Rattle.sheet_file.specs.Done.{fault_in, Done, ParaDone, unopened, ended_after, ParasDone, all_ended, one_ended, one_faulty, Goes}
-use Rattle.sheet_file.specs.Turns.{Turned, Forward}
+use Rattle.sheet_file.specs.Turns.{Turned, Forward, on_line}
 
 module _ (P : Para) (m : Span) (is : m ≡ P.margins) (s t : Sheet) where
-  pub para_refused : (e : Refusal) → Tells (opens m P.clear) (refused e) s t → Goes (λ es fs. ParaDone P es fs (Some (at_line P.line (Refused (setback e 0))))) s t
+  para_refused : (e : Refusal) → Tells (opens m P.clear) (refused e) s t → Goes (λ es fs. ParaDone P es fs (Some (at_line P.line (Refused (setback e 0))))) s t
   para_refused e told z past p =
       let h : Tells (opens P.margins P.clear) (refused e) s t = subst (λ (b : Span). Tells (opens b P.clear) (refused e) s t) is told in
       (event (opens P.margins P.clear) (refused e) ∷ past, (h z past p).0, unopened)
@@ -27,6 +32,26 @@ module _ (P : Para) (m : Span) (is : m ≡ P.margins) (s t : Sheet) where
       let h : Tells (opens P.margins P.clear) (opened n) s t = subst (λ (b : Span). Tells (opens b P.clear) (opened n) s t) is told in
       let x = items z (event (opens P.margins P.clear) (opened n) ∷ past) (h z past p).0 in
       (event (ends n) ended ∷ x.0, (end z x.0 x.1).0, ended_after x.2)
+
+-- the call that opens it was answered with r, which is q as an answer of the file
+module _ (q : Result Slip FileFault) (Q : Refusal → FileFault → Type 0) (tells : (e : Refusal) (f : FileFault) → Q e f → f ≡ Refused (setback e 0)) where
+  pub opening_is : (n : ℕ) (r : Result Slip Refusal) (own : Slip) → MatchResult r (λ x. q ≡ Ok x) (λ e. IsErrAnd q (Q e)) → Ok own ≡ on_line n q → r ≡ Ok own
+  opening_is n (Ok x) own cases is = let h : ◌≡◌ {A = Result Slip Located} (Ok own) (Ok x) = is ∙ ap (on_line n) cases in cc
+  opening_is n (Err e) own cases is =
+      let p = err_from_is_err_and q cases in
+      let h : ◌≡◌ {A = Result Slip Located} (Ok own) (Err (at_line n p.0)) = is ∙ ap (on_line n) p.1 in
+      let z : ◌≡◌ {A = ℕ} 0 1 = cc in absurd (omega arith)
+
+  pub para_unopened : (P : Para) (m : Span) (is : m ≡ P.margins) (s t : Sheet) (r : Result Slip Refusal) (x : Located) → MatchResult r (λ v. q ≡ Ok v) (λ e. IsErrAnd q (Q e)) → Err x ≡ on_line P.line q → Tells (opens m P.clear) (open_answer r) s t → Goes (λ es fs. ParaDone P es fs (Some x)) s t
+  para_unopened P m is s t (Ok v) x cases was told =
+      let h : ◌≡◌ {A = Result Slip Located} (Err x) (Ok v) = was ∙ ap (on_line P.line) cases in
+      let z : ◌≡◌ {A = ℕ} 0 1 = cc in absurd (omega arith)
+  para_unopened P m is s t (Err e) x cases was told =
+      let p = err_from_is_err_and q cases in
+      let h : ◌≡◌ {A = Result Slip Located} (Err x) (Err (at_line P.line p.0)) = was ∙ ap (on_line P.line) p.1 in
+      let same : x ≡ at_line P.line p.0 = cc in
+      let here : x ≡ at_line P.line (Refused (setback e 0)) = same ∙ ap (at_line P.line) (tells e p.0 p.2) in
+      subst (λ (y : Located). Goes (λ es fs. ParaDone P es fs (Some y)) s t) (sym here) (para_refused P m is s t e told)
 
 -- the paragraph that begins with the first line ahead of c; its items are ahead of d, and what comes behind them ahead of e
 module _ (S : Setting) (c d e : Cursor) (h : ParaLine) (s t : Sheet) (head : first_line (number c) heading_of (ahead c) ≡ Ok (h, ahead d)) (on : number d ≡ number c + 1) where

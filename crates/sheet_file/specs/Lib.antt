@@ -5,3 +5,4 @@ pub mod Desks
 pub mod Turns
 pub mod Bodies
 pub mod Laid
+pub mod Setters

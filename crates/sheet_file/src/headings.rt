@@ -68,7 +68,7 @@ fn shelve(cursor: &mut Cursor<'_>, count: u16) -> Result<Shelf, Located>
     ensures { ShelfTold count cursor.old result cursor.new }
 {
     let mut shelf = Shelf::new();
-    for done in 0..count {
+    for _ in 0..count {
         let stairs = next_stairs(cursor)?;
         shelf.put(stairs);
     }

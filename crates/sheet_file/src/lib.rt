@@ -10,14 +10,11 @@ pub(crate) mod desks;
 // The lines before the paragraphs.
 pub(crate) mod headings;
 
-// The items of a paragraph.
-pub(crate) mod paragraph_items;
-
-// The paragraphs of a file.
-pub(crate) mod paragraphs;
-
 // What single lines say, and what is made of that.
 pub(crate) mod readers;
+
+// Setting the paragraphs of a file.
+pub(crate) mod setters;
 
 // A whole file.
 pub mod reading;

@@ -6,7 +6,7 @@ ghost use Rattle.shapes.specs.Models.{stairs_model};
 ghost use Rattle.sheet_file.specs.Plans.{formed, sheet_of, metric_of, stairs_of};
 ghost use Rattle.sheet_file.specs.Turns.{mapped};
 
-use items::faults::{FileFault, SheetFault};
+use items::faults::FileFault;
 use lexer::faults::Fault;
 use lexer::lines::Line;
 use lines::flights::steps_line;
@@ -14,16 +14,12 @@ use lines::headings::{SheetLine, metric_line, sheet_line};
 use scales::Scale;
 use shapes::stairs::Stairs;
 use sheet::fault;
-use text::TextFault;
 
 // A line that is not of its form, as a fault of the file.
 pub(crate) fn formed<T>(res: Result<T, Fault>) -> Result<T, FileFault>
     ensures { result ≡ formed res }
 {
-    match res {
-        Ok(value) => Ok(value),
-        Err(fault) => Err(FileFault::from(fault)),
-    }
+    Ok(res?)
 }
 
 // The size of the sheet, where it can be made over so many cells.
@@ -35,7 +31,7 @@ pub(crate) fn size_of(line: Line<'_>, cells: usize) -> Result<SheetLine, FileFau
     let height = u32::from(size.height);
     match fault(width, height, u32::from(size.line), cells) {
         None => Ok(size),
-        Some(refusal) => Err(FileFault::from(SheetFault::from(refusal))),
+        Some(refusal) => Err(FileFault::from(refusal)),
     }
 }
 
@@ -44,10 +40,7 @@ pub(crate) fn scale_of(line: Line<'_>) -> Result<Scale, FileFault>
     ensures { mapped scale_advances result ≡ metric_of (line_of line.entry) }
 {
     let said = metric_line(line)?;
-    match Scale::new(said.family, said.number) {
-        Ok(scale) => Ok(scale),
-        Err(unfit) => Err(FileFault::from(TextFault::from(unfit))),
-    }
+    Ok(Scale::new(said.family, said.number)?)
 }
 
 // A staircase.
@@ -56,8 +49,5 @@ pub(crate) fn stairs_of(line: Line<'_>) -> Result<Stairs, FileFault>
 {
     let said = steps_line(line)?;
     let count = usize::from(said.count);
-    match Stairs::new(u32::from(said.width), &said.steps[0..count]) {
-        Ok(stairs) => Ok(stairs),
-        Err(refusal) => Err(FileFault::from(SheetFault::from(refusal))),
-    }
+    Ok(Stairs::new(u32::from(said.width), &said.steps[0..count])?)
 }

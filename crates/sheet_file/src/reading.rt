@@ -1,6 +1,5 @@
 // A whole file: its sheet is made, and the calls that its lines ask for are made on it.
 ghost use Rattle.std.specs.Prelude.{◌≡◌, length, drop};
-ghost use Rattle.sheet.specs.Sheets.{boxes_in};
 ghost use Rattle.items.specs.Spares.{Spares};
 ghost use Rattle.sheet_file.specs.Cursors.{ahead, number};
 ghost use Rattle.sheet_file.specs.Done.{fault_in, ParasDone, Goes};
@@ -8,8 +7,8 @@ ghost use Rattle.sheet_file.specs.Laid.{Laid};
 ghost use Rattle.sheet_file.specs.Plans.{body_of, body_plan, no_size, stopped, file_plan};
 
 use crate::cursors::Cursor;
-use crate::headings::{next_body, next_size};
-use crate::paragraphs::set_paragraphs;
+use crate::headings::{Body, next_body, next_size};
+use crate::setters::Setter;
 use items::faults::{FileFault, Located};
 use reaches::reach::Reach;
 use rules::boxes::BoxRecord;
@@ -20,12 +19,10 @@ use text::{Run, Word};
 // The most bytes of a file.
 const LONGEST: usize = 32768;
 
-// What comes of a file: the boxes that were set, in the order of the list, and the first fault, if there is one. The records
-// of the list that were not used are handed back with them.
+// What comes of a file: the list of its sheet, with the boxes that were set, and the first fault, if there is one.
 #[derive(Clone, Copy)]
 pub struct Reading<'a> {
-    pub boxes: &'a [BoxRecord],
-    pub spare: &'a [BoxRecord],
+    pub list: Finished<'a>,
     pub fault: Option<Located>,
 }
 
@@ -33,39 +30,36 @@ pub struct Reading<'a> {
 fn lay_out(
     sheet: &mut Sheet<'_>,
     width: u32,
-    cursor: &mut Cursor<'_>,
+    lines: Cursor<'_>,
     words: &mut [Word],
     runs: &mut [Run],
 ) -> Result<(), Located>
-    requires { number cursor.old ≡ 2 }
+    requires { number lines ≡ 2 }
     ensures spares { Spares sheet.old sheet.new }
-    ensures told { Goes (λ es fs. ParasDone (body_plan (body_of width (length words.old) (length runs.old) (ahead cursor.old))) es fs (fault_in result)) sheet.old sheet.new }
+    ensures told { Goes (λ es fs. ParasDone (body_plan (body_of width (length words.old) (length runs.old) (ahead lines.entry))) es fs (fault_in result)) sheet.old sheet.new }
 {
-    let body = next_body(width, cursor)?;
-    set_paragraphs(sheet, &body.desk, cursor, body.count, words, runs)
-}
-
-// What comes of a sheet that is let go, with this fault.
-fn finished<'a>(sheet: Sheet<'a>, fault: Option<Located>) -> Reading<'a>
-    ensures boxes { result.boxes.now ≡ boxes_in sheet.entry }
-    ensures spare { result.spare.now ≡ drop sheet.entry.store.used sheet.entry.store.list.now }
-    ensures fault { result.fault ≡ fault }
-{
-    let Finished { boxes, spare } = sheet.finish();
-    Reading {
-        boxes,
-        spare,
-        fault,
-    }
+    let mut cursor = lines;
+    let Body { desk, count } = next_body(width, &mut cursor)?;
+    let mut setter = Setter {
+        sheet,
+        desk,
+        cursor,
+        words,
+        runs,
+    };
+    setter.set_paragraphs(count)
 }
 
 // A file without a sheet: one without rows is made, and nothing is written.
 fn nothing<'a>(cells: &'a mut [Reach], list: &'a mut [BoxRecord], fault: Located) -> Reading<'a>
-    ensures laid { Laid (stopped (no_size (length cells.old) (length list.old)) fault) result.boxes.now result.fault }
-    ensures spare { result.spare.now ≡ drop (length result.boxes.now) list.old }
+    ensures laid { Laid (stopped (no_size (length cells.old) (length list.old)) fault) result.list.boxes.now result.fault }
+    ensures spare { result.list.spare.now ≡ drop (length result.list.boxes.now) list.old }
 {
     let sheet = Sheet::new(0, 0, 0, cells, list);
-    finished(sheet, Some(fault))
+    Reading {
+        list: sheet.finish(),
+        fault: Some(fault),
+    }
 }
 
 // Reads a file and lays out its sheet, up to the first fault. The rows of the sheet take the cells, its boxes the list;
@@ -77,22 +71,24 @@ pub fn read<'a>(
     words: &mut [Word],
     runs: &mut [Run],
 ) -> Reading<'a>
-    ensures laid { Laid (file_plan file.now (length cells.old) (length words.old) (length runs.old) (length list.old)) result.boxes.now result.fault }
-    ensures spare { result.spare.now ≡ drop (length result.boxes.now) list.old }
+    ensures laid { Laid (file_plan file.now (length cells.old) (length words.old) (length runs.old) (length list.old)) result.list.boxes.now result.fault }
+    ensures spare { result.list.spare.now ≡ drop (length result.list.boxes.now) list.old }
 {
     if file.len() > LONGEST {
         let fault = FileFault::Long;
         return nothing(cells, list, Located { line: 0, fault });
     }
     let mut cursor = Cursor::new(file);
-    match next_size(&mut cursor, cells.len()) {
-        Err(fault) => nothing(cells, list, fault),
-        Ok(size) => {
-            let width = u32::from(size.width);
-            let height = u32::from(size.height);
-            let mut sheet = Sheet::new(width, height, u32::from(size.line), cells, list);
-            let done = lay_out(&mut sheet, width, &mut cursor, words, runs);
-            finished(sheet, done.err())
-        }
+    let size = match next_size(&mut cursor, cells.len()) {
+        Ok(size) => size,
+        Err(fault) => return nothing(cells, list, fault),
+    };
+    let width = u32::from(size.width);
+    let height = u32::from(size.height);
+    let mut sheet = Sheet::new(width, height, u32::from(size.line), cells, list);
+    let done = lay_out(&mut sheet, width, cursor, words, runs);
+    Reading {
+        list: sheet.finish(),
+        fault: done.err(),
     }
 }

@@ -80,6 +80,6 @@ pub fn report(heap: Global, file: &[u8]) -> Result<Vec<u8>, AllocError>
     let reading = read(file, &mut cells, &mut list, &mut words, &mut runs);
     match reading.fault {
         Some(fault) => show_fault(heap, fault_line(fault)),
-        None => show(heap, reading.boxes),
+        None => show(heap, reading.list.boxes),
     }
 }

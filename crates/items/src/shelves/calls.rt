@@ -14,7 +14,7 @@ impl Shelf {
     {
         // What stands past the count is never asked for.
         let Ok(blank) = Stairs::new(1, &[Step { rows: 1, extent: 0 }]) else {
-            unreachable()
+            unreachable!()
         };
         Shelf {
             stairs: [blank; MOST_SHAPES],
@@ -43,11 +43,6 @@ impl Shelf {
     pub fn get(&self, index: u16) -> Option<Stairs>
         ensures { form_of result ≡ slice_get (kept self.now) index }
     {
-        let at = usize::from(index);
-        if at < self.count {
-            Some(self.stairs[at])
-        } else {
-            None
-        }
+        self.stairs[0..self.count].get(usize::from(index)).copied()
     }
 }

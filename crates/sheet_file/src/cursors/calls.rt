@@ -48,32 +48,28 @@ impl<'a> Cursor<'a> {
     pub(crate) fn judge<T>(&self, res: Result<T, FileFault>) -> Result<T, Located>
         ensures { result ≡ on_line self.now.read res }
     {
-        match res {
-            Ok(value) => Ok(value),
-            Err(fault) => Err(self.behind(fault)),
-        }
+        let line = self.read;
+        res.map_err(|fault| Located { line, fault })
     }
 
     // No line is left.
     pub(crate) fn end(&mut self) -> Result<(), Located>
         ensures { fault_in result ≡ surplus (number self.old) (ahead self.old) }
     {
-        match self.lines.next() {
-            None => Ok(()),
-            Some(_) => Err(self.at(FileFault::Extent)),
+        if self.lines.next().is_some() {
+            return Err(self.at(FileFault::Extent));
         }
+        Ok(())
     }
 
     // The next line, which must be there.
     pub(crate) fn next(&mut self) -> Result<Line<'a>, Located>
         ensures { Moves self.old result self.new }
     {
-        match self.lines.next() {
-            Some(line) => {
-                self.read += 1;
-                Ok(line)
-            }
-            None => Err(self.at(FileFault::Extent)),
-        }
+        let Some(line) = self.lines.next() else {
+            return Err(self.at(FileFault::Extent));
+        };
+        self.read += 1;
+        Ok(line)
     }
 }

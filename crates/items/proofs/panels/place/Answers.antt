@@ -2,9 +2,6 @@ use Rattle.std.proofs.Common.{Err, refl, ap, ◌∙◌}
 use Rattle.std.proofs.lemmas.Result.{err_from_is_err_and}
 use Rattle.shapes.specs.Made.{answered}
 use Rattle.rules.specs.Runs.{stands, refused}
-use Rattle.items.specs.declared.faults.SheetFault.{SheetFault}
-use Rattle.items.specs.declared.faults.FileFault.TheVariants.{Refused}
-use Rattle.items.specs.Asked.{raised}
 use Rattle.items.proofs.Asking.{asked_panel}
 use Rattle.items.proofs.panels.place.Goals as goal
 
@@ -12,7 +9,7 @@ pub returns-in_err-panel-clause-asked : goal.returns-in_err-panel-clause-asked
 returns-in_err-panel-clause-asked g c =
     let p = err_from_is_err_and c.from_residual-in_err-panel.result c.from_residual-in_err-panel.ensures.1 in
     asked_panel c.args.side c.args.clear (answered g.S.Shape.model c.args.shape) (g.S.Shape.model c.in_ok-shape.shape) (refused c.in_err-panel.field-0.0) _ c.args.sheet.now c.panel.new.self
-    (ap (answered g.S.Shape.model) c.in_ok-shape.was) c.in_err-panel.ensures.account (ap raised p.1 ∙ ap (λ (f : SheetFault). Err (Refused f)) p.2)
+    (ap (answered g.S.Shape.model) c.in_ok-shape.was) c.in_err-panel.ensures.account (p.1 ∙ ap Err p.2)
 
 pub returns-clause-asked : goal.returns-clause-asked
 returns-clause-asked g c =

@@ -5,8 +5,8 @@ use Rattle.sheet_file.specs.Plans.{shapes_plan}
 use Rattle.sheet_file.specs.Turns.{Forward}
 use Rattle.sheet_file.proofs.headings.shelve.Given as goal
 
-abbrev pub invariant-loop-done : goal.invariant-loop-done
-invariant-loop-done l =
-    Forward l.done l.initial.cursor l.cursor
-    × (length (kept l.shelf) ≡ l.done)
-    × (shapes_plan l.count (number l.initial.cursor) (ahead l.initial.cursor) [] ≡ shapes_plan (l.count - l.done) (number l.cursor) (ahead l.cursor) (kept l.shelf))
+abbrev pub invariant-loop : goal.invariant-loop
+invariant-loop l =
+    Forward l.counter l.initial.cursor l.cursor
+    × (length (kept l.shelf) ≡ l.counter)
+    × (shapes_plan l.count (number l.initial.cursor) (ahead l.initial.cursor) [] ≡ shapes_plan (l.count - l.counter) (number l.cursor) (ahead l.cursor) (kept l.shelf))

@@ -1,26 +1,24 @@
-use Rattle.std.proofs.Common.{◌≡◌, length, Some, Err, Result, sym, ap, ◌∙◌, subst}
+use Rattle.std.proofs.Common.{◌≡◌, rules, length, Some, sym, ap, subst}
 use Rattle.std.proofs.lemmas.Result.{err_from_is_err_and}
-use Rattle.items.specs.declared.faults.Located.{Located}
+use Rattle.sheet.specs.Sheets.{fields}
 use Rattle.sheet_file.specs.Cursors.{ahead}
 use Rattle.sheet_file.specs.Done.{fault_in, ParasDone, all_ended, Goes}
 use Rattle.sheet_file.specs.Plans.{Paras, no_paras, body_of, body_plan}
+use Rattle.sheet_file.proofs.Setting.{goes_back}
 use Rattle.sheet_file.proofs.reading.lay_out.Goals as goal
 
-pub returns-in_err-body-clause-told : goal.returns-in_err-body-clause-told
-returns-in_err-body-clause-told c =
-    let s = c.args.sheet.now in
-    let B = body_of c.args.width (length c.args.words.now) (length c.args.runs.now) (ahead c.args.cursor.now) in
-    let x = c.in_err-body.field-0.0 in
+pub returns-in_err-desk-clause-told : goal.returns-in_err-desk-clause-told
+returns-in_err-desk-clause-told c =
+    let B = body_of c.args.width (length c.args.words.now) (length c.args.runs.now) (ahead c.args.lines) in
+    let x = c.in_err-desk.field-0.0 in
     let p = err_from_is_err_and c.from_residual.result c.from_residual.ensures.1 in
-    let is : c.from_residual.result ≡ Err x = p.1 ∙ ap Err p.2 in
-    let none : body_plan B ≡ no_paras (Some x) = ap body_plan (c.in_err-body.ensures (length c.args.words.now) (length c.args.runs.now)) in
-    let here : Goes (λ es fs. ParasDone (body_plan B) es fs (Some x)) s s = λ z past h. (past, h, subst (λ (P : Paras). ParasDone P past past (Some x)) (sym none) all_ended) in
-    subst (λ (r : Result (Unit {0}) Located). Goes (λ es fs. ParasDone (body_plan B) es fs (fault_in r)) s s) (sym is) here
+    let none : body_plan B ≡ no_paras (Some x) = ap body_plan (c.in_err-desk.ensures (length c.args.words.now) (length c.args.runs.now)) in
+    rw (p.1, p.2) (λ z past h. (past, h, subst (λ (P : Paras). ParasDone P past past (Some x)) (sym none) all_ended))
 
+-- the sheet that is handed back is the setter's
 pub returns-clause-told : goal.returns-clause-told
 returns-clause-told c =
-    let s = c.args.sheet.now in
-    let t = c.set_paragraphs.new.sheet in
-    let B = body_of c.args.width (length c.args.words.now) (length c.args.runs.now) (ahead c.args.cursor.now) in
-    let is = ap body_plan (c.in_ok-body.ensures (length c.args.words.now) (length c.args.runs.now)) in
-    subst (λ (P : Paras). Goes (λ es fs. ParasDone P es fs (fault_in c.set_paragraphs.result)) s t) (sym is) c.set_paragraphs.ensures.told
+    let P = body_plan (body_of c.args.width (length c.args.words.now) (length c.args.runs.now) (ahead c.args.lines)) in
+    let is = ap body_plan (c.in_ok-desk.ensures (length c.args.words.now) (length c.args.runs.now)) in
+    let told : Goes (λ es fs. ParasDone P es fs (fault_in c.set_paragraphs.result)) c.args.sheet.now c.set_paragraphs.new.self.sheet.now = rw is c.set_paragraphs.ensures.told in
+    goes_back (λ es fs. ParasDone P es fs (fault_in c.set_paragraphs.result)) c.args.sheet.now (fields c.set_paragraphs.new.self.sheet.now) _ told (search rules)

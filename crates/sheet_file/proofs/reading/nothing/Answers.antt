@@ -1,14 +1,9 @@
-use Rattle.std.proofs.Common.{[], length, Some, Option, sym, subst}
-use Rattle.items.specs.declared.faults.Located.{Located}
+use Rattle.std.proofs.Common.{[], length, Some}
 use Rattle.sheet_file.specs.Done.{all_ended}
-use Rattle.sheet_file.specs.Laid.{Laid}
 use Rattle.sheet_file.specs.Plans.{no_size, stopped}
 use Rattle.sheet_file.proofs.Lying.{laid_by}
 use Rattle.sheet_file.proofs.reading.nothing.Goals as goal
 
 pub returns-clause-laid : goal.returns-clause-laid
 returns-clause-laid c =
-    let P = stopped (no_size (length c.args.cells.now) (length c.args.list.now)) c.args.fault in
-    let s = c.new-sheet.result in
-    let bs = c.finished.result.boxes.now in
-    subst (λ (o : Option Located). Laid P bs o) (sym c.finished.ensures.fault) (laid_by P [] s bs (Some c.args.fault) all_ended c.new-sheet.ensures.account c.finished.ensures.boxes)
+    laid_by (stopped (no_size (length c.args.cells.now) (length c.args.list.now)) c.args.fault) [] c.new-sheet.result c.finish.result.boxes.now (Some c.args.fault) all_ended c.new-sheet.ensures.account c.finish.ensures.list
