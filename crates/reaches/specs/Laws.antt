@@ -24,7 +24,7 @@ reach_laws = record {
   left_neutral = λ x. same _ _ _ _ _ _ _ _ (omega arith) (omega arith) (omega arith) (omega arith);
   right_neutral = λ x. same _ _ _ _ _ _ _ _ (omega arith) (omega arith) (omega arith) (omega arith);
   begins_within = λ x y l h.
-      let all = leb-true l.need (room (left_over l.of l.width l.margins (farther x y))) h in
-      let less = less_left l.of l.width l.margins x y in
-      le-leb l.need (room (left_over l.of l.width l.margins x)) (omega arith);
+      let all = leb-true l.need (room (left_over l.gap.of l.gap.width l.gap.margins (farther x y))) h in
+      let less = less_left l.gap.of l.gap.width l.gap.margins x y in
+      le-leb l.need (room (left_over l.gap.of l.gap.width l.gap.margins x)) (omega arith);
 }

@@ -34,4 +34,4 @@ left_over Boxes W m r = between W m r.box_left r.box_right
 left_over Areas W m r = between W m r.area_left r.area_right
 
 abbrev pub leaves_need : Reach → Need → Bool
-leaves_need r l = nat_le l.need (room (left_over l.of l.width l.margins r))
+leaves_need r l = nat_le l.need (room (left_over l.gap.of l.gap.width l.gap.margins r))

@@ -1,43 +1,39 @@
 // What a panel reaches on one of its rows.
-ghost use Rattle.std.specs.Prelude.{◌≡◌, ◌+◌, ◌^◌, ◌<◌, ◌≤◌};
-ghost use Rattle.reaches.specs.Panels.{from_left, from_right, reach_at};
+ghost use Rattle.std.specs.Prelude.{◌≡◌, ◌+◌, ◌^◌, ◌<◌, ◌≤◌, cond, nat_lt};
+ghost use Rattle.reaches.specs.Panels.{reach_at};
 
+use crate::part::Part;
 use crate::reach::Reach;
 use shapes::sides::Side;
 
-// How far in from the left what is e wide of a box at x reaches.
-fn in_from_left(side: Side, x: u32, e: u32) -> u32
-    requires { x + e < 2 ^ 32 }
-    ensures { result ≡ from_left side x e }
+// How far in from the edge of its side what is e wide of a box reaches that stands so many units in.
+fn in_from(edge: u32, e: u32) -> u32
+    requires { edge + e < 2 ^ 32 }
+    ensures { result ≡ cond (nat_lt 0 e) (edge + e) 0 }
 {
-    match side {
-        Side::Left => if e > 0 { x + e } else { 0 },
-        Side::Right => 0,
-    }
+    if e > 0 { edge + e } else { 0 }
 }
 
-// And from the right, of a box w wide on a sheet of this width.
-fn in_from_right(width: u32, side: Side, x: u32, w: u32, e: u32) -> u32
-    requires whole { x + w ≤ width }
-    requires part { e ≤ w }
-    ensures { result ≡ from_right width side x w e }
-{
-    match side {
-        Side::Left => 0,
-        Side::Right => if e > 0 { width - (x + w - e) } else { 0 },
-    }
-}
-
-// What a panel's box, w wide at x, and its area, e wide, reach on a row of a sheet of this width.
-pub fn reach_on(width: u32, side: Side, x: u32, w: u32, e: u32) -> Reach
-    requires whole { x + w ≤ width }
-    requires part { e ≤ w }
-    ensures { result ≡ reach_at width side x w w e }
-{
-    Reach {
-        box_left: in_from_left(side, x, w),
-        box_right: in_from_right(width, side, x, w, w),
-        area_left: in_from_left(side, x, e),
-        area_right: in_from_right(width, side, x, w, e),
+impl Part {
+    // What the whole box and this part of it, as a panel's area, reach on a row of a sheet of this width.
+    pub fn reach(self, width: u32) -> Reach
+        requires { self.x + self.w ≤ width }
+        ensures { result ≡ reach_at width self.side self.x self.w self.w self.e }
+    {
+        match self.side {
+            Side::Left => Reach {
+                box_left: in_from(self.x, self.w),
+                area_left: in_from(self.x, self.e),
+                ..Reach::default()
+            },
+            Side::Right => {
+                let edge = width - (self.x + self.w);
+                Reach {
+                    box_right: in_from(edge, self.w),
+                    area_right: in_from(edge, self.e),
+                    ..Reach::default()
+                }
+            }
+        }
     }
 }

@@ -1,6 +1,7 @@
 // The reach of some rows: four numbers that say what the panels there leave between any margins.
 ghost use Rattle.std.specs.Prelude.{◌≡◌};
-ghost use Rattle.reaches.specs.Reaches.{no_reach, farther, between, left_over, leaves_need};
+ghost use Rattle.reaches.specs.Reaches.{no_reach, farther, left_over, leaves_need};
+ghost use Rattle.std.proofs.Common.{rules};
 ghost use Rattle.reaches.specs.Laws.{reach_laws};
 
 use places::parts::Span;
@@ -8,7 +9,7 @@ use segment_tree::Element;
 
 // How far in from the sheet's left edge the boxes and the areas of left panels reach, and from its right edge those of
 // right panels.
-#[derive(Clone, Copy)]
+#[derive(Clone, Copy, PartialEq, Eq, Default, Debug)]
 pub struct Reach {
     pub box_left: u32,
     pub box_right: u32,
@@ -23,32 +24,34 @@ pub enum Taken {
     Areas,
 }
 
-// So many units are needed between the margins, on a sheet of this width, beside the boxes or beside the areas.
+// Where panels leave room: between these margins on a sheet of this width, beside the boxes or beside the areas.
 #[derive(Clone, Copy)]
-pub struct Need {
+pub struct Gap {
     pub margins: Span,
     pub width: u32,
-    pub need: u32,
     pub of: Taken,
 }
 
-// What is left between the margins of what nobody reaches from the left or from the right.
-fn between(width: u32, margins: Span, left: u32, right: u32) -> Span
-    ensures { result ≡ between width margins left right }
-{
-    Span {
-        from: margins.from.max(left),
-        to: margins.to.min(width.saturating_sub(right)),
-    }
+// So many units are needed there.
+#[derive(Clone, Copy)]
+pub struct Need {
+    pub gap: Gap,
+    pub need: u32,
 }
 
-// What boxes, or areas, that reach in so far leave between the margins.
-pub fn left_over(of: Taken, width: u32, margins: Span, reach: Reach) -> Span
-    ensures { result ≡ left_over of width margins reach }
-{
-    match of {
-        Taken::Boxes => between(width, margins, reach.box_left, reach.box_right),
-        Taken::Areas => between(width, margins, reach.area_left, reach.area_right),
+impl Gap {
+    // What boxes, or areas, that reach in so far leave between the margins.
+    pub fn left_over(self, reach: Reach) -> Span
+        ensures { result ≡ left_over self.of self.width self.margins reach }
+    {
+        let (left, right) = match self.of {
+            Taken::Boxes => (reach.box_left, reach.box_right),
+            Taken::Areas => (reach.area_left, reach.area_right),
+        };
+        Span {
+            from: self.margins.from.max(left),
+            to: self.margins.to.min(self.width.saturating_sub(right)),
+        }
     }
 }
 
@@ -63,13 +66,10 @@ impl Element for Reach {
 
     ghost lawful = { reach_laws };
 
+    ghost exact = { Prim.search rules };
+
     fn empty() -> Reach {
-        Reach {
-            box_left: 0,
-            box_right: 0,
-            area_left: 0,
-            area_right: 0,
-        }
+        Reach::default()
     }
 
     fn join(self, other: Reach) -> Reach {
@@ -82,14 +82,7 @@ impl Element for Reach {
     }
 
     fn within(self, limit: &Need) -> bool {
-        let left = left_over(limit.of, limit.width, limit.margins, self);
+        let left = limit.gap.left_over(self);
         limit.need <= left.to.saturating_sub(left.from)
-    }
-
-    fn same(self, other: Reach) -> bool {
-        self.box_left == other.box_left
-            && self.box_right == other.box_right
-            && self.area_left == other.area_left
-            && self.area_right == other.area_right
     }
 }

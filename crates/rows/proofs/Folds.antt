@@ -3,7 +3,7 @@ use Rattle.std.proofs.Common.{◌≡◌, ℕ, zero, suc, ◌+◌, ◌≤◌, Lis
 use Rattle.segment_tree.specs.Joins.{fold_of}
 use Rattle.segment_tree.specs.Trees.{elements}
 use Rattle.segment_tree.proofs.Spans.{fold_none, fold_cat, fold_one}
-use Rattle.segment_tree.proofs.Leaves.{length_leaves}
+use Rattle.segment_tree.proofs.LeafLists.{length_leaves}
 use Rattle.places.specs.Panels.{Placed}
 use Rattle.reaches.specs.declared.reach.Reach.{Reach}
 use Rattle.reaches.specs.Reaches.{no_reach, farther}
@@ -11,13 +11,12 @@ use Rattle.reaches.specs.Panels.{rows_reach}
 use Rattle.reaches.specs.Laws.{reach_laws}
 use Rattle.rows.specs.declared.Rows.{Rows}
 use Rattle.rows.specs.Told.{Told}
-use Rattle.rows.specs.Fit.{Fit}
 
 -- there is an element for each row
-pub long_enough : (rows : Rows) → Fit rows → length (elements rows.tree) ≡ rows.height
-long_enough rows fit =
+pub long_enough : (rows : Rows) → length (elements rows.tree) ≡ rows.height
+long_enough rows =
     let t = rows.tree in
-    length_leaves t.size t.count t.cells.now fit.sound.shaped.long fit.sound.shaped.few ∙ fit.count
+    length_leaves t.size t.count t.cells.now t.long t.few ∙ rows.count
 
 pub rows_fold : (W H : ℕ) (cells : List Reach) (qs : List Placed) → length cells ≡ H → Told W H cells qs
     → (n t : ℕ) → t + n ≤ H → fold_of no_reach farther cells t (t + n) ≡ rows_reach W qs t n

@@ -6,11 +6,11 @@ ghost use Rattle.places.specs.Bands.{band, free};
 ghost use Rattle.reaches.specs.Reaches.{no_reach, farther};
 ghost use Rattle.reaches.specs.Panels.{rows_reach};
 ghost use Rattle.rows.specs.Told.{index_of, Tells};
-ghost use Rattle.rows.specs.Fit.{Fit, Stays};
+ghost use Rattle.rows.specs.Fit.{Stays};
 
 use crate::Rows;
 use places::parts::Span;
-use reaches::reach::{Reach, Taken, left_over};
+use reaches::reach::{Gap, Reach, Taken};
 use segment_tree::Element;
 
 // Where the reach of a row stands in the tree.
@@ -23,7 +23,6 @@ fn index(row: u32) -> usize
 impl<'a> Rows<'a> {
     // How far in the panels reach on the n rows from `top` on.
     pub(crate) fn reach_of(&self, top: u32, n: u32) -> Reach
-        requires fit { Fit self.now }
         requires inside { top + n ≤ self.now.height }
         ensures { (qs : List Placed) → Tells self.now qs → result ≡ rows_reach self.now.width qs top n }
     {
@@ -33,9 +32,7 @@ impl<'a> Rows<'a> {
 
     // Row `row` reaches as far as it did, or as this reach.
     pub(crate) fn widen(&mut self, row: u32, reach: Reach)
-        requires fit { Fit self.old }
         requires inside { row < self.old.height }
-        ensures fit { Fit self.new }
         ensures stays { Stays self.old self.new }
         ensures after { elements self.new.tree ≡ slice_set (elements self.old.tree) (index_of row) (farther reach (slice_index_or (elements self.old.tree) (index_of row) no_reach)) }
     {
@@ -46,22 +43,30 @@ impl<'a> Rows<'a> {
 
     // The band of the n rows from `top` on: what the areas leave between the margins on all of them.
     pub fn band(&self, margins: Span, top: u32, n: u32) -> Span
-        requires fit { Fit self.now }
         requires inside { top + n ≤ self.now.height }
         requires margins { margins.to ≤ self.now.width }
         ensures { (qs : List Placed) → Tells self.now qs → result ≡ band margins qs top n }
     {
-        left_over(Taken::Areas, self.width, margins, self.reach_of(top, n))
+        let gap = Gap {
+            margins,
+            width: self.width,
+            of: Taken::Areas,
+        };
+        gap.left_over(self.reach_of(top, n))
     }
 
     // What the boxes leave of row y between the margins.
     pub(crate) fn free_on(&self, margins: Span, y: u32) -> Span
-        requires fit { Fit self.now }
         requires inside { y < self.now.height }
         requires margins { margins.to ≤ self.now.width }
         ensures inside { result.to ≤ margins.to }
         ensures told { (qs : List Placed) → Tells self.now qs → result ≡ free margins qs y }
     {
-        left_over(Taken::Boxes, self.width, margins, self.reach_of(y, 1))
+        let gap = Gap {
+            margins,
+            width: self.width,
+            of: Taken::Boxes,
+        };
+        gap.left_over(self.reach_of(y, 1))
     }
 }

@@ -2,6 +2,8 @@
 // panel in. A row is told by its reach, one element of a tree over lent cells, so each question is a few joins.
 #![tactic(auto)]
 
+ghost use Rattle.std.specs.Prelude.{◌≡◌, ◌^◌, ◌<◌};
+
 use reaches::reach::Reach;
 use segment_tree::Tree;
 
@@ -11,6 +13,8 @@ mod bands;
 mod lines;
 // New rows, and how wide they are.
 mod make;
+// Where lines and panels stand: the margins, the height of a line, and the open line.
+pub mod ground;
 // The best place for a panel.
 mod panels;
 // Taking a panel in.
@@ -22,4 +26,8 @@ pub struct Rows<'a> {
     tree: Tree<'a, Reach>,
     width: u32,
     height: u32,
+    // The tree has an element for each row.
+    ghost count: { tree.count ≡ height },
+    // The height is a number of 32 bits, which a proof may use where the code doesn't read it.
+    ghost high: { height < 2 ^ 32 },
 }

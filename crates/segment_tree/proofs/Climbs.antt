@@ -6,7 +6,7 @@ use Rattle.segment_tree.specs.Cells.{Agrees, leaves}
 use Rattle.segment_tree.specs.Walk.{Held, Stuck}
 use Rattle.segment_tree.specs.LongestRun.{Longest}
 use Rattle.segment_tree.proofs.Spans.{fold_cat, fold_one, double}
-use Rattle.segment_tree.proofs.Leaves.{part_leaves, length_leaves}
+use Rattle.segment_tree.proofs.LeafLists.{part_leaves, length_leaves}
 
 -- the half of an even number, times twice as much
 half_times : (x w : ℕ) → x % 2 ≡ 0 → x / 2 * (w * 2) ≡ x * w

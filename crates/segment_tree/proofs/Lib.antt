@@ -3,4 +3,5 @@ pub mod Spans
 pub mod Sums
 pub mod Climbs
 pub mod Doubling
-pub mod Leaves
+pub mod LeafLists
+pub mod Sound

@@ -1,35 +1,10 @@
-// The work on the cells. With q leaves, cell 1 is the root, cells 2k and 2k + 1 stand below cell k, and leaf i is
-// cell q + i. Cell 0 is not used, and cells from 2q on are left alone.
+// The writes to the cells. With q leaves, cell 1 is the root, cells 2k and 2k + 1 stand below cell k, and leaf i is
+// cell q + i. Cell 0 is not used, and cells from 2q on are left alone. These take the slice and not the tree, since
+// between two of their writes the joins are not yet those of the elements, as a tree's are.
 ghost use Rattle.std.specs.Prelude.{◌≡◌, ℕ, ◌+◌, ◌*◌, ◌<◌, ◌≤◌, length, drop, slice_index_or, slice_set};
-ghost use Rattle.segment_tree.specs.Joins.{fold_of};
 ghost use Rattle.segment_tree.specs.Cells.{Agrees};
 
 use crate::Element;
-
-// The join of the leaves a to b - 1: of the nodes at the two ends that no wider node takes in, level by level.
-pub(crate) fn fold<E: Element>(cells: &[E], size: usize, a: usize, b: usize) -> E
-    requires agrees { Agrees E.none E.op size cells.now }
-    requires order { (a < b) × (b ≤ size) }
-    ensures { result ≡ fold_of E.none E.op cells.now (size + a) (size + b) }
-{
-    let mut low = size + a;
-    let mut high = size + b;
-    let mut front = E::empty();
-    let mut back = E::empty();
-    while low < high {
-        if low % 2 == 1 {
-            front = front.join(cells[low]);
-            low += 1;
-        }
-        if high % 2 == 1 {
-            high -= 1;
-            back = cells[high].join(back);
-        }
-        low /= 2;
-        high /= 2;
-    }
-    front.join(back)
-}
 
 // Sets leaf i, and the cells above it up to the first that stays as it was.
 pub(crate) fn put<E: Element>(cells: &mut [E], size: usize, i: usize, e: E)
@@ -43,7 +18,7 @@ pub(crate) fn put<E: Element>(cells: &mut [E], size: usize, i: usize, e: E)
     while node > 1 {
         node /= 2;
         let joined = cells[2 * node].join(cells[2 * node + 1]);
-        if joined.same(cells[node]) {
+        if joined == cells[node] {
             return;
         }
         cells[node] = joined;
@@ -61,13 +36,11 @@ pub(crate) fn join_all<E: Element>(cells: &mut [E], size: usize)
     }
 }
 
-// Makes the first n cells empty.
-pub(crate) fn clear<E: Element>(cells: &mut [E], n: usize)
-    requires { n ≤ length cells.old }
-    ensures empty { (k : ℕ) → k < n → slice_index_or cells.new k E.none ≡ E.none }
-    ensures rest { drop n cells.new ≡ drop n cells.old }
+// Makes every cell empty.
+pub(crate) fn clear<E: Element>(cells: &mut [E])
+    ensures { (k : ℕ) → k < length cells.old → slice_index_or cells.new k E.none ≡ E.none }
 {
-    for k in 0..n {
-        cells[k] = E::empty();
+    for cell in cells.iter_mut() {
+        *cell = E::empty();
     }
 }

@@ -1,9 +1,9 @@
 // What a tree asks of its elements.
-ghost use Rattle.std.specs.Prelude.{◌≡◌, Bool, true};
+ghost use Rattle.std.specs.Prelude.{◌≡◌, ◌↔◌, Bool, true};
 ghost use Rattle.segment_tree.specs.Joins.{Laws};
 
 // A kind of element that can be joined in order, as a sum or a maximum, and held against a limit.
-pub trait Element: Copy {
+pub trait Element: Copy + PartialEq {
     // What an element is held against.
     type Limit;
 
@@ -25,10 +25,8 @@ pub trait Element: Copy {
     fn within(self, limit: &Self::Limit) -> bool
         ensures { result ≡ fits self limit.now };
 
-    // Whether the two are equal.
-    fn same(self, other: Self) -> bool
-        ensures alike { result ≡ true → self ≡ other }
-        ensures told { self ≡ other → result ≡ true };
-
     ghost lawful: { Laws none op fits };
+
+    // Two elements are equal by `==` exactly where they are the same element.
+    ghost exact: { (x y : Self) → (Self.eq x y ≡ true) ↔ (x ≡ y) };
 }

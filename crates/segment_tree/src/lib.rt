@@ -4,16 +4,15 @@
 
 // What an element is: how two are joined, and when one is within a limit.
 mod element;
-// The tree and its methods.
+// The tree and its leaves, with their methods, and the way from an element to the end of its longest run.
 mod segment;
 // How many leaves a tree has, and so how many cells it takes.
 mod powers;
-// The work on the slice of cells: join a range, set a leaf, join everything anew.
+// The writes to the slice of cells: set a leaf, join everything anew, make all empty.
 mod cells;
-// The way from an element to the end of its longest run.
-mod runs;
 
 pub use element::Element;
 pub use powers::{enough, leaf_count_is_least};
-pub use runs::one_longest_run;
-pub use segment::Tree;
+pub use segment::leaves::Leaves;
+pub use segment::runs::one_longest_run;
+pub use segment::{NoElement, Tree};

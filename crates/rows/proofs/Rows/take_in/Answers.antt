@@ -15,16 +15,14 @@ loop-k-preserved g c =
     let now = c.loop-k.self in
     let next = c.widen.new.self in
     let k = c.loop-k.k in
-    let fit = c.loop-k.invariant.0 in
-    let stays = c.loop-k.invariant.1 in
+    let stays = c.loop-k.invariant.0 in
     let small : k < f.tall = omega (arith, c.height-k-end.ensures) in
-    let inside : c.args.place.y + k < length (elements now.tree) = omega (arith, long_enough now fit, stays.height, c.requires.high) in
+    let inside : c.args.place.y + k < length (elements now.tree) = omega (arith, long_enough now, stays.height, c.requires.high) in
     let reach =
-    row_taken before.width now.width c.width-width.result c.extent-extent.result q k c.reach_on-taken.result
-    small stays.width c.width-width.ensures c.extent-extent.ensures c.reach_on-taken.ensures in (
-      c.widen.ensures.fit,
+    row_taken before.width now.width c.width-w.result c.extent-e.result q k c.reach-taken.result
+    small stays.width c.width-w.ensures c.extent-e.ensures c.reach-taken.ensures in (
       stays_on before now next stays c.widen.ensures.stays,
-      grown_more before.width q k (elements before.tree) (elements now.tree) (elements next.tree) c.reach_on-taken.result inside c.loop-k.invariant.2 reach c.widen.ensures.after,
+      grown_more before.width q k (elements before.tree) (elements now.tree) (elements next.tree) c.reach-taken.result inside c.loop-k.invariant.1 reach c.widen.ensures.after,
     )
 
 pub returns-clause-told : goal.returns-clause-told
@@ -33,8 +31,8 @@ returns-clause-told g c = λ qs told.
     let q = panel_at c.args.side c.args.place.x c.args.place.y f in
     let before = c.args.self.now in
     let now = c.loop-k.self in
-    let stays = c.loop-k.invariant.1 in
+    let stays = c.loop-k.invariant.0 in
     let all : c.loop-k.k ≡ f.tall = omega (arith, c.height-k-end.ensures, c.loop-k.auto.k-end) in
-    let grown = subst (λ n. Grown before.width q n (elements before.tree) (elements now.tree)) all c.loop-k.invariant.2 in
+    let grown = subst (λ n. Grown before.width q n (elements before.tree) (elements now.tree)) all c.loop-k.invariant.1 in
     subst₂ (λ W H. Told W H (elements now.tree) (q ∷ qs)) (sym stays.width) (sym stays.height)
     (grown_all before.width before.height q (elements before.tree) (elements now.tree) (g.met.S.Shape.real c.args.shape.now) c.requires.wide grown qs told)

@@ -1,8 +1,6 @@
--- The cells below k are empty, those from n on as they were.
-use Rattle.std.proofs.Common.{◌≡◌, ℕ, ◌<◌, get_or, drop}
+-- The cells below the index are empty.
+use Rattle.std.proofs.Common.{◌≡◌, ℕ, ◌<◌, get_or}
 use Rattle.segment_tree.proofs.cells.clear.Given as goal
 
-abbrev pub invariant-loop-k : goal.invariant-loop-k
-invariant-loop-k g l =
-    ((j : ℕ) → j < l.k → get_or l.cells j g.E.Element.none ≡ g.E.Element.none)
-    × (drop l.n l.cells ≡ drop l.n l.initial.cells)
+abbrev pub invariant-loop-cell : goal.invariant-loop-cell
+invariant-loop-cell g l = (k : ℕ) → k < l.cell-index → get_or l.cells k g.E.Element.none ≡ g.E.Element.none

@@ -25,8 +25,8 @@ loop-node-preserved g c =
       drop-set-lt c.args.size cs at x (omega arith) ∙ inv.4,
     )
 
-pub returns-then-same-clause-after : goal.returns-then-same-clause-after
-returns-then-same-clause-after g c = c.loop-node.invariant.4 ∙ drop-set-add c.args.size c.args.cells.now c.args.i c.args.e
+pub returns-then-eq-clause-after : goal.returns-then-eq-clause-after
+returns-then-eq-clause-after g c = c.loop-node.invariant.4 ∙ drop-set-add c.args.size c.args.cells.now c.args.i c.args.e
 
 pub returns-clause-after : goal.returns-clause-after
 returns-clause-after g c = c.loop-node.invariant.4 ∙ drop-set-add c.args.size c.args.cells.now c.args.i c.args.e

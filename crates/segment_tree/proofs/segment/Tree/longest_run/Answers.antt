@@ -2,7 +2,7 @@
 use Rattle.std.proofs.Common.{sym, ap, ◌∙◌, arith}
 use Rattle.segment_tree.specs.Trees.{elements}
 use Rattle.segment_tree.proofs.Climbs.{none_past, none_fits}
-use Rattle.segment_tree.proofs.Leaves.{length_leaves}
+use Rattle.segment_tree.proofs.LeafLists.{length_leaves}
 use Rattle.segment_tree.proofs.segment.Tree.longest_run.Goals as goal
 use Rattle.segment_tree.proofs.segment.Tree.longest_run.Goals.{then-a-self-via-then-a-self, then-a-self-via-else-a-self+then-not-within}
 
@@ -12,7 +12,7 @@ returns-then-a-self g c =
     let t = c.args.self.now in
     elim c.then-a-self.branch [
       | then-a-self-via-then-a-self w ↦
-          let len = length_leaves t.size t.count t.cells.now c.requires.shaped.long c.requires.shaped.few in
+          let len = length_leaves t.size t.count t.cells.now t.long t.few in
           let h = w.if-a-self.true in
           none_past m.none m.op (λ x. m.fits x c.args.limit.now) (elements t) c.args.a (omega arith)
       | then-a-self-via-else-a-self+then-not-within w ↦

@@ -1,32 +1,31 @@
--- Cells that are all empty agree, and stand for empty elements.
-use Rattle.std.proofs.Common.{◌*◌, ◌≤◌, length, drop, sym, refl, ap, ◌∙◌, arith, rules, leb-true}
+-- Cells that are all empty stand for empty elements, and those past them are as they were.
+use Rattle.std.proofs.Common.{◌≡◌, ◌*◌, ◌++◌, ◌≤◌, length, drop, replicate, ap, ◌∙◌, arith, rules, length-append}
+use Rattle.std.proofs.lemmas.List.{get_or_append_left}
+use Rattle.std.proofs.lemmas.Slice.{drop-append-drop}
 use Rattle.segment_tree.specs.LeafCount.{leaf_count}
-use Rattle.segment_tree.proofs.Doubling.{leaf_count_least}
-use Rattle.segment_tree.proofs.Leaves.{all_none, leaves_none}
+use Rattle.segment_tree.proofs.LeafLists.{leaves_none}
 use Rattle.segment_tree.proofs.segment.Tree.new.Goals as goal
-
-pub leaf_count-size-requires : goal.leaf_count-size-requires
-leaf_count-size-requires g c =
-    let above = (leaf_count_least c.args.count).above in
-    let room = leb-true (2 * leaf_count c.args.count) (length c.args.cells.now) (sym c.if-not-enough.ensures) in
-    search rules
 
 pub returns : goal.returns
 returns g c =
-    let m = g.E.Element in
-    let q = c.leaf_count-size.result in
-    let is = c.leaf_count-size.ensures in
-    let above = (leaf_count_least c.args.count).above in
-    let room = leb-true (2 * leaf_count c.args.count) (length c.args.cells.now) (sym c.if-not-enough.ensures) in
-    let few : c.args.count ≤ q = omega arith in
-    let cs = c.clear.new.cells in
-    let long : 2 * q ≤ length cs = search rules in
-    let good = all_none g.met.E.Element.lawful cs q long c.clear.ensures.empty in
+    let none = g.E.Element.none in
+    let l = c.in_ok-cells.field-0 in
+    let q = l.size in
+    let lent = c.in_ok-cells.ensures in
+    let empty = c.clear.new.cells in
+    let rest = drop (2 * q) l.cells.now in
+    let all : length empty ≡ 2 * q = search rules in
+    let sum = length-append empty rest in
+    let long : 2 * q ≤ length (empty ++ rest) = omega arith in
     record {
-      room = room;
-      count = refl;
-      size = is;
-      empty = leaves_none m.none q c.args.count cs long few c.clear.ensures.empty;
-      sound = record { shaped = record { few = few; long = long }; sums = good.sums };
-      rest = ap (λ x. drop (2 * x) cs) (sym is) ∙ c.clear.ensures.rest ∙ ap (λ x. drop (2 * x) c.args.cells.now) is;
+      room = lent.room;
+      count = lent.count;
+      size = lent.size;
+      empty =
+          leaves_none none q l.count (empty ++ rest) long l.few (λ k h. get_or_append_left empty rest none k (omega arith) ∙ c.clear.ensures k (search rules))
+          ∙ ap (λ n. replicate n none) lent.count;
+      rest =
+          ap (λ n. drop (2 * leaf_count c.args.count) (empty ++ drop (2 * n) l.cells.now)) lent.size
+          ∙ drop-append-drop (2 * leaf_count c.args.count) l.cells.now empty (2 * leaf_count c.args.count) (omega arith) (all ∙ ap (λ n. 2 * n) lent.size)
+          ∙ ap (drop (2 * leaf_count c.args.count)) lent.same;
     }

@@ -1,8 +1,8 @@
 -- A leaf set is an element set.
 use Rattle.std.proofs.Common.{◌+◌, set}
 use lib.Seq.{drop-set-add}
-use Rattle.segment_tree.proofs.Leaves.{leaves_set}
-use Rattle.segment_tree.proofs.segment.Tree.lay.Goals as goal
+use Rattle.segment_tree.proofs.LeafLists.{leaves_set}
+use Rattle.segment_tree.proofs.segment.leaves.Leaves.lay.Goals as goal
 
 pub returns-clause-after : goal.returns-clause-after
 returns-clause-after g c =
