@@ -1,10 +1,9 @@
 // One text line: what it measures to.
 ghost use Rattle.std.specs.Prelude.{◌≡◌, ◌≤◌, length, Some};
 ghost use Rattle.lexer.specs.LinesLeft.{line_of};
-ghost use Rattle.text_report.specs.Measures.{most_words, most_cells, line_ending, refused, text_measure, text_line};
+ghost use Rattle.text_report.specs.Measures.{most_words, most_cells, refused, text_measure, text_line};
 
 use crate::faults::FileFault;
-use lexer::faults::{Cause, Fault};
 use lexer::lines::Line;
 use metrics::advances::Metrics;
 use std::fmt;
@@ -27,19 +26,6 @@ impl fmt::Display for Measured {
         let width = self.width;
         write!(f, "text {line} {words} {width}\n")
     }
-}
-
-// The line has its line end.
-fn ended(line: Line<'_>) -> Result<(), Fault>
-    ensures { result ≡ line_ending (line_of line.entry) }
-{
-    if line.ended {
-        return Ok(());
-    }
-    Err(Fault {
-        cause: Cause::Field,
-        place: line.bytes.len(),
-    })
 }
 
 // The text is one that is measured. With this much memory no text has too many words.
@@ -66,7 +52,7 @@ pub(crate) fn measure_text<M: Metrics>(
     requires cells { most_cells ≤ length cells.old }
     ensures { result ≡ text_measure (M.advances metrics.now) number (line_of line.entry) }
 {
-    ended(line)?;
+    line.closed()?;
     accepted(line.bytes, words, cells)?;
     let text = measure(metrics, line.bytes, words, cells);
     let count = text.count();

@@ -17,5 +17,5 @@ returns g c =
     let law = g.met.M.Metrics.ranges c.args.metrics.now in
     let whole = whole_width adv text words cells t made c.requires.records c.requires.cells fine law c.count-count.result c.count-count.ensures in
     let width = c.width-width.ensures ∙ ap (width_of c.fold.result) c.space.ensures ∙ ap (λ r. width_of r t.space) c.fold.ensures ∙ whole in
-    measured_text adv c.args.number (line_of c.args.line) _ c.in_ok-ended.ensures fine
+    measured_text adv c.args.number (line_of c.args.line) _ c.in_ok-closed.ensures fine
     (λ j. record { line = c.args.number; words = count j; width = width j })
