@@ -16,9 +16,7 @@ mod tests {
 
     #[test]
     fn the_house_table_at_ten(rt: HostRuntime) -> Result<(), Fail> {
-        let Ok(house) = Table::house(10) else {
-            return Err(Fail::new("10 is a size"));
-        };
+        let house = Table::house(10)?;
         assert_eq!(rt; house.advance(b'i'), 3, "2.5 units, upward");
         assert_eq!(rt; house.advance(b'n'), 5);
         assert_eq!(rt; house.advance(b'm'), 8, "7.5 units, upward");

@@ -16,14 +16,16 @@ pub mod rounding;
 pub mod tables;
 
 // The one refusal: an advance, a size, a table's width or its length that is out of range.
-#[derive(Clone, Copy)]
+#[derive(Clone, Copy, PartialEq, Eq, Debug)]
 pub struct Unfit;
 
 impl Unfit {
+    const NUMBER: u8 = 4;
+
     // The number by which the refusal is known outside.
     pub fn number(self) -> u8
         ensures { result ≡ unfit }
     {
-        4
+        Self::NUMBER
     }
 }

@@ -12,19 +12,13 @@ use Rattle.text.specs.declared.faults.TextFault.{TextFault}
 use Rattle.text.specs.declared.records.Word.{Word}
 use Rattle.text.proofs.Advances.{measured_fits}
 
-none_there : {X : Type 0} (o : Option X) → false ≡ is_some o → o ≡ None
-none_there None e = refl
-none_there (Some x) e = absurd (false≢true e)
-
-pub no_fault : (f : Option TextFault) (text : List ℕ) (words cells : ℕ) → f ≡ text_fault text words cells → false ≡ is_some f → text_fault text words cells ≡ None
-no_fault f text words cells is none = sym is ∙ none_there f none
-
-module _ (adv : ℕ → ℕ) (text : List ℕ) (words cells : ℕ) (none : text_fault text words cells ≡ None) where
+-- where there is no fault, there are few bytes, and records and cells enough
+module _ (text : List ℕ) (words cells : ℕ) (none : text_fault text words cells ≡ None) where
   pub short : length text ≤ longest_text
   short = grind (arith, nat_tests)
 
-  pub all_accepted : accepted adv text words cells ≡ measured adv text
-  all_accepted = ap (λ f. unless f [] (measured adv text)) none
+  pub room : length (words_of text) ≤ words
+  room = grind (arith, nat_tests)
 
 -- the records in use, where the words have been laid over the list
 module _ (adv : ℕ → ℕ) (text : List ℕ) (old new : List Word) (is : new ≡ laid (measured adv text) old) where

@@ -1,8 +1,8 @@
 -- The sum that is held at a number is a lawful join, and so are runs. Assumes nothing.
 use Rattle.std.proofs.Common.{⊎_elim, sym, ap, ◌∙◌, mul-le-mul_left, arith}
-use Rattle.std.specs.Prelude.{◌≡◌, ℕ, ◌+◌, ◌-◌, ◌<◌, ◌≤◌, min, max}
+use Rattle.std.specs.Prelude.{◌≡◌, ℕ, ◌+◌, ◌-◌, ◌<◌, ◌≤◌, true, ◌&&◌, ◌↔◌, min, max, nat_eq}
 use Rattle.segment_tree.specs.Joins.{Laws}
-use Rattle.std.proofs.lemmas.Bool.{cases_lt, leb-true, le-leb}
+use Rattle.std.proofs.lemmas.Bool.{cases_lt, leb-true, le-leb, and_parts, and_from, eqb-true, eq-eqb}
 use Rattle.text.specs.Run.{largest, held_sum, no_run, longer, width_of, has_room}
 use Rattle.text.specs.declared.runs.Run.{Run}
 
@@ -72,3 +72,11 @@ run_laws = record {
       let gaps = mul-le-mul_left room.space fewer in
       le-leb (width_of x room.space) room.width (omega (arith, leb-true (width_of (longer x y) room.space) room.width h));
 }
+
+-- two runs whose parts are equal numbers are one run
+pub run_equals : (x y : Run) → (nat_eq x.advance y.advance && nat_eq x.count y.count ≡ true) ↔ (x ≡ y)
+run_equals x y = (
+  λ e. let parts = and_parts (nat_eq x.advance y.advance) (nat_eq x.count y.count) e in
+      alike x y (eqb-true x.advance y.advance parts.0) (eqb-true x.count y.count parts.1),
+  λ e. and_from (nat_eq x.advance y.advance) (nat_eq x.count y.count) (eq-eqb x.advance y.advance (ap (λ (r : Run). r.advance) e)) (eq-eqb x.count y.count (ap (λ (r : Run). r.count) e)),
+)

@@ -1,5 +1,7 @@
 // Why a text is not measured.
-ghost use Rattle.std.specs.Prelude.{◌≡◌, length};
+ghost use Rattle.std.specs.Prelude.{◌≡◌, length, IfOk};
+ghost use Rattle.std.specs.Result.{result_err};
+ghost use Rattle.words.specs.Words.{words_of};
 ghost use Rattle.text.specs.Fault.{cause_of, place_of, text_fault};
 ghost use Rattle.text.specs.declared.faults.TextFault.TheVariants.{Metrics};
 
@@ -12,7 +14,7 @@ use words::spans::count;
 // The longest text that is measured, in bytes.
 const LONGEST: usize = 8192;
 
-#[derive(Clone, Copy)]
+#[derive(Clone, Copy, PartialEq, Eq, Debug)]
 pub enum TextFault {
     // No metrics could be made.
     Metrics,
@@ -56,19 +58,28 @@ impl TextFault {
     }
 }
 
+// How many words there are to measure, or the first fault that applies to measuring this text into these records and
+// cells. It writes nothing.
+pub(crate) fn admitted(text: &[u8], words: &[Word], cells: &[Run]) -> Result<usize, TextFault>
+    ensures fault { result_err result ≡ text_fault text.now (length words.now) (length cells.now) }
+    ensures count { IfOk result (λ n. n ≡ length (words_of text.now)) }
+{
+    if text.len() > LONGEST {
+        return Err(TextFault::Long);
+    }
+    if let Some(place) = bad_byte(text) {
+        return Err(TextFault::Byte { place });
+    }
+    let count = count(text);
+    if count > words.len() || !enough(cells.len(), count) {
+        return Err(TextFault::Memory);
+    }
+    Ok(count)
+}
+
 // The first fault that applies to measuring this text into these records and cells. It writes nothing.
 pub fn fault(text: &[u8], words: &[Word], cells: &[Run]) -> Option<TextFault>
     ensures { result ≡ text_fault text.now (length words.now) (length cells.now) }
 {
-    if text.len() > LONGEST {
-        return Some(TextFault::Long);
-    }
-    if let Some(place) = bad_byte(text) {
-        return Some(TextFault::Byte { place });
-    }
-    let count = count(text);
-    if count > words.len() || !enough(cells.len(), count) {
-        return Some(TextFault::Memory);
-    }
-    None
+    admitted(text, words, cells).err()
 }

@@ -5,10 +5,10 @@ ghost use Rattle.text.specs.Measure.{advance_of, word_of, measured, laid};
 ghost use Rattle.words.specs.Words.{end, words_of};
 
 use metrics::advances::Metrics;
-use words::spans::{Span, next_word};
+use words::spans::{Span, Words};
 
 // Where a word stands in its text, how many bytes it has, and how far it moves the pen.
-#[derive(Clone, Copy)]
+#[derive(Clone, Copy, PartialEq, Eq, Default, Debug)]
 pub struct Word {
     pub place: u32,
     pub length: u32,
@@ -20,11 +20,10 @@ fn advance<M: Metrics>(metrics: &M, bytes: &[u8]) -> u32
     requires { length bytes.now ≤ longest_text }
     ensures { result ≡ advance_of (M.advances metrics.now) bytes.now }
 {
-    let mut sum = 0;
-    for byte in bytes {
-        sum += u32::from(metrics.advance(*byte));
-    }
-    sum
+    bytes
+        .iter()
+        .map(|byte| u32::from(metrics.advance(*byte)))
+        .sum()
 }
 
 // The record of the word that stands there.
@@ -42,19 +41,13 @@ fn record<M: Metrics>(metrics: &M, text: &[u8], span: Span) -> Word
     }
 }
 
-// Writes the record of each word, from the first place of the list on, and answers how many there are.
-pub(crate) fn record_all<M: Metrics>(metrics: &M, text: &[u8], words: &mut [Word]) -> usize
+// Writes the record of each word, from the first place of the list on.
+pub(crate) fn record_all<M: Metrics>(metrics: &M, text: &[u8], words: &mut [Word])
     requires short { length text.now ≤ longest_text }
     requires room { length (words_of text.now) ≤ length words.old }
-    ensures count { result ≡ length (words_of text.now) }
-    ensures list { words.new ≡ laid (measured (M.advances metrics.now) text.now) words.old }
+    ensures { words.new ≡ laid (measured (M.advances metrics.now) text.now) words.old }
 {
-    let mut count = 0;
-    let mut at = 0;
-    while let Some(span) = next_word(text, at) {
-        words[count] = record(metrics, text, span);
-        count += 1;
-        at = span.place + span.length;
+    for (i, span) in Words::new(text).enumerate() {
+        words[i] = record(metrics, text, span);
     }
-    count
 }

@@ -1,12 +1,12 @@
 // A run of words that stand one after another on a line, as an element of a segment tree.
 ghost use Rattle.std.specs.Prelude.{◌≡◌};
 ghost use Rattle.text.specs.Run.{no_run, longer, width_of, has_room, SumsAreHeld};
-ghost use Rattle.text.specs.HeldSums.{run_laws};
+ghost use Rattle.text.specs.HeldSums.{run_laws, run_equals};
 
 use segment_tree::Element;
 
 // The advances of the words together, and how many words there are; each sum is held at the largest number.
-#[derive(Clone, Copy)]
+#[derive(Clone, Copy, PartialEq, Eq, Default, Debug)]
 pub struct Run {
     pub advance: u32,
     pub count: u32,
@@ -40,11 +40,10 @@ impl Element for Run {
 
     ghost lawful = { run_laws };
 
+    ghost exact = { run_equals };
+
     fn empty() -> Run {
-        Run {
-            advance: 0,
-            count: 0,
-        }
+        Run::default()
     }
 
     fn join(self, other: Run) -> Run {
@@ -56,10 +55,6 @@ impl Element for Run {
 
     fn within(self, limit: &Room) -> bool {
         self.width(limit.space) <= u64::from(limit.width)
-    }
-
-    fn same(self, other: Run) -> bool {
-        self.advance == other.advance && self.count == other.count
     }
 }
 

@@ -1,9 +1,7 @@
 // A measured text.
-ghost use Rattle.std.specs.Prelude.{◌≡◌, ℕ, ◌*◌, ◌<◌, ◌≤◌, map, length, take, slice_index_or};
-ghost use Rattle.segment_tree.specs.Cells.{Sums};
+ghost use Rattle.std.specs.Prelude.{◌≡◌, ℕ, ◌<◌, ◌≤◌, map, length, take, slice_index_or};
 ghost use Rattle.segment_tree.specs.Trees.{elements};
 ghost use Rattle.text.specs.Measure.{no_word, run_of, FitAdvance};
-ghost use Rattle.text.specs.Run.{no_run, longer};
 
 use crate::{Run, Word};
 use segment_tree::Tree;
@@ -12,17 +10,13 @@ mod calls;
 pub mod making;
 
 // The records of the words, of which the first `runs.count()` are in use, the tree of the words' runs, and the advance of
-// the space. It is made by `measure` alone, and only read after that.
+// the space. It is made by `measure` and `new`, and only read after that.
 #[derive(Drop)]
 pub struct Text<'a> {
     words: &'a [Word],
     runs: Tree<'a, Run>,
     space: u8,
-    // The tree is sound.
-    ghost few: { runs.count ≤ runs.size },
-    ghost long: { 2 * runs.size ≤ length runs.cells.now },
-    ghost sums: { Sums no_run longer runs.size runs.cells.now },
-    // Its elements are the runs of the words in use.
+    // The tree's elements are the runs of the words in use.
     ghost listed: { runs.count ≤ length words.now },
     ghost alike: { elements runs ≡ map run_of (take runs.count words.now) },
     // Each word moves the pen, and none farther than the longest text of the widest bytes would.

@@ -1,4 +1,3 @@
-pub mod BadBytes
 pub mod Runs
 pub mod Steps
 pub mod Walks

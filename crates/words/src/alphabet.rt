@@ -6,10 +6,7 @@ ghost use Rattle.words.specs.Alphabet.{first_bad, allowed, FirstBad};
 fn is_allowed(b: u8) -> bool
     ensures { result ≡ allowed b }
 {
-    match b as char {
-        '\n' | ' '..='~' => true,
-        _ => false,
-    }
+    matches!(b as char, '\n' | ' '..='~')
 }
 
 // The offset of the first byte that may not stand in a text.
@@ -17,10 +14,5 @@ pub fn bad_byte(text: &[u8]) -> Option<usize>
     ensures answer { result ≡ first_bad text.now }
     ensures first { FirstBad text.now result }
 {
-    for (i, b) in text.iter().enumerate() {
-        if !is_allowed(*b) {
-            return Some(i);
-        }
-    }
-    None
+    text.iter().position(|b| !is_allowed(*b))
 }

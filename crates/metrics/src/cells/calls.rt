@@ -10,12 +10,11 @@ impl Cell {
     pub fn new(advance: u16) -> Result<Cell, Unfit>
         ensures { MakesCell advance result }
     {
-        if advance < 1 || advance > 255 {
+        let advance = u8::try_from(advance).map_err(|_| Unfit)?;
+        if advance < 1 {
             return Err(Unfit);
         }
-        Ok(Cell {
-            advance: advance as u8,
-        })
+        Ok(Cell { advance })
     }
 }
 

@@ -13,7 +13,7 @@ fn place(byte: u8) -> usize
     ensures inside { result < 95 }
 {
     match byte {
-        32..=126 => usize::from(byte - 32),
+        b' '..=b'~' => usize::from(byte - b' '),
         _ => 0,
     }
 }
@@ -24,8 +24,7 @@ fn scaled(width: u16, size: u16) -> u8
     requires large { FitSize size }
     ensures { result ≡ scaled width size }
 {
-    let units = rounded(u32::from(width) * u32::from(size));
-    if units == 0 { 1 } else { units as u8 }
+    rounded(u32::from(width) * u32::from(size)).max(1) as u8
 }
 
 impl Metrics for Table {

@@ -11,12 +11,7 @@ use crate::tables::house::WIDTHS;
 fn all_fit(widths: &[u16]) -> bool
     ensures { Decides result (FitWidths widths.now) }
 {
-    for width in widths {
-        if *width < 1 || *width > 2000 {
-            return false;
-        }
-    }
-    true
+    widths.iter().all(|width| (1..=2000).contains(width))
 }
 
 impl Table {
@@ -24,13 +19,11 @@ impl Table {
     pub fn new(widths: &[u16], size: u16) -> Result<Table, Unfit>
         ensures { MakesTable widths.now size result }
     {
-        if size < 1 || size > 120 || !all_fit(widths) {
+        if !(1..=120).contains(&size) || !all_fit(widths) {
             return Err(Unfit);
         }
-        match <[u16; 95]>::try_from(widths) {
-            Ok(own) => Ok(Table { widths: own, size }),
-            Err(_) => Err(Unfit),
-        }
+        let widths = <[u16; 95]>::try_from(widths).map_err(|_| Unfit)?;
+        Ok(Table { widths, size })
     }
 
     // The house table at this size; refuses a size that isn't 1 to 120.

@@ -29,11 +29,7 @@ impl<'a> Text<'a> {
         ensures answer { result ≡ slice_get (words_in self.now) i }
         ensures fit { IfSome result (λ w. FitAdvance w.advance) }
     {
-        if i < self.count() {
-            Some(self.words[i])
-        } else {
-            None
-        }
+        self.words[..self.count()].get(i).copied()
     }
 
     // The words a to b - 1 as one run. A b past the last word counts as the number of words.

@@ -1,49 +1,81 @@
 // Measuring a text.
-ghost use Rattle.std.specs.Prelude.{◌≡◌, ◌*◌, ◌≤◌, map, length, take, drop};
+ghost use Rattle.std.specs.Prelude.{◌≡◌, ◌*◌, ◌≤◌, map, length, take, drop, IfErr};
 ghost use Rattle.segment_tree.specs.LeafCount.{leaf_count};
-ghost use Rattle.segment_tree.specs.Trees.{elements, Kept, Shaped, Sound};
+ghost use Rattle.segment_tree.specs.Trees.{elements, laid, KeptLeaves};
 ghost use Rattle.text.specs.Measure.{run_of};
-ghost use Rattle.text.specs.Run.{no_run, longer};
-ghost use Rattle.text.specs.Text.{Measures};
+ghost use Rattle.text.specs.Text.{Measures, Makes};
 
+use crate::faults::admitted;
 use crate::records::record_all;
-use crate::{Run, Text, Word, fault};
+use crate::{Run, Text, TextFault, Word};
 use metrics::advances::Metrics;
-use segment_tree::Tree;
+use segment_tree::{Leaves, Tree};
 
-// Writes the run of each word as an element of the tree, which is still to be joined.
-fn lay_runs(runs: &mut Tree<'_, Run>, words: &[Word])
-    requires shaped { Shaped runs.old }
-    requires list { runs.old.count ≤ length words.now }
-    ensures shaped { Shaped runs.new }
-    ensures kept { Kept runs.old runs.new }
-    ensures after { elements runs.new ≡ map run_of (take runs.old.count words.now) }
+// A text that is not measured: why, and the records and the cells that were lent for it, as they were.
+#[derive(Drop)]
+pub struct Unmeasured<'a> {
+    pub fault: TextFault,
+    pub words: &'a mut [Word],
+    pub cells: &'a mut [Run],
+}
+
+// Writes the run of each word as a leaf.
+fn lay_runs(runs: &mut Leaves<'_, Run>, words: &[Word])
+    requires { runs.old.count ≡ length words.now }
+    ensures kept { KeptLeaves runs.old runs.new }
+    ensures after { laid runs.new ≡ map run_of words.now }
 {
-    for i in 0..runs.count() {
-        let advance = words[i].advance;
-        runs.lay(i, Run { advance, count: 1 });
+    for (i, word) in words.iter().enumerate() {
+        let run = Run {
+            advance: word.advance,
+            count: 1,
+        };
+        runs.lay(i, run).unwrap();
     }
 }
 
-// The tree of the runs of the first `count` words.
-fn tree_of<'a>(words: &[Word], count: usize, cells: &'a mut [Run]) -> Tree<'a, Run>
-    requires list { count ≤ length words.now }
-    requires room { 2 * leaf_count count ≤ length cells.old }
-    ensures sound { Sound no_run longer result }
-    ensures count { result.count ≡ count }
-    ensures after { elements result ≡ map run_of (take result.count words.now) }
-    ensures rest { drop (2 * leaf_count count) result.cells.now ≡ drop (2 * leaf_count count) cells.old }
+// The tree of the runs of these words.
+fn tree_of<'a>(words: &[Word], cells: &'a mut [Run]) -> Tree<'a, Run>
+    requires { 2 * leaf_count (length words.now) ≤ length cells.old }
+    ensures count { result.count ≡ length words.now }
+    ensures after { elements result ≡ map run_of words.now }
+    ensures rest { drop (2 * leaf_count (length words.now)) result.cells.now ≡ drop (2 * leaf_count (length words.now)) cells.old }
 {
-    let Some(mut runs) = Tree::new(cells, count) else {
-        unreachable()
-    };
+    let mut runs = Leaves::new(cells, words.len()).unwrap();
     lay_runs(&mut runs, words);
-    runs.join_all();
-    runs
+    runs.join_all()
 }
 
-// Measures a text into a list of records and the cells of a tree, from the first of each on.
-// Of a text that `fault` refuses it makes a text of no words, and writes nothing.
+impl<'a> Text<'a> {
+    // Measures a text into a list of records and the cells of a tree, from the first of each on.
+    // Where `fault` refuses the text, it hands both back as they were.
+    pub fn new<M: Metrics>(
+        metrics: &M,
+        text: &[u8],
+        words: &'a mut [Word],
+        cells: &'a mut [Run],
+    ) -> Result<Text<'a>, Unmeasured<'a>>
+        ensures made { Makes (M.advances metrics.now) text.now words.old cells.old result }
+        ensures words { IfErr result (λ u. u.words.ghost_name ≡ words.entry.ghost_name) }
+        ensures cells { IfErr result (λ u. u.cells.ghost_name ≡ cells.entry.ghost_name) }
+    {
+        match admitted(text, words, cells) {
+            Err(fault) => Err(Unmeasured {
+                fault,
+                words,
+                cells,
+            }),
+            Ok(count) => {
+                record_all(metrics, text, words);
+                let runs = tree_of(&words[..count], cells);
+                let space = metrics.advance(b' ');
+                Ok(Text { words, runs, space })
+            }
+        }
+    }
+}
+
+// Measures a text as `Text::new` does, but of a text that `fault` refuses it makes a text of no words, and writes nothing.
 pub fn measure<'a, M: Metrics>(
     metrics: &M,
     text: &[u8],
@@ -52,17 +84,14 @@ pub fn measure<'a, M: Metrics>(
 ) -> Text<'a>
     ensures { Measures (M.advances metrics.now) text.now words.old cells.old result }
 {
-    let space = metrics.advance(b' ');
-    if fault(text, words, cells).is_some() {
-        return Text {
+    match Text::new(metrics, text, words, cells) {
+        Ok(text) => text,
+        Err(Unmeasured { words, cells, .. }) => Text {
             words,
             runs: Tree::vacant(cells),
-            space,
-        };
+            space: metrics.advance(b' '),
+        },
     }
-    let count = record_all(metrics, text, words);
-    let runs = tree_of(words, count, cells);
-    Text { words, runs, space }
 }
 
 #[cfg(test)]
