@@ -12,9 +12,17 @@ use shapes::sides::{Clear, Side};
 use shapes::stairs::{Stairs, Step};
 use sheet::answers::Flowed;
 use sheet::sheet::Sheet;
+use sheet::sizes::SheetSize;
 use sheet::slips::Slip;
 use std::test::Fail;
 use text::{Run, Word, measure};
+
+// The size of a sheet, with lines of 10 rows.
+const SIZE: SheetSize = SheetSize {
+    width: 100,
+    height: 60,
+    line: 10,
+};
 
 // The margins of a whole sheet.
 const WHOLE: Span = Span { from: 0, to: 100 };
@@ -71,7 +79,7 @@ fn stands(place: Option<Place>, x: u32, y: u32) -> bool {
 fn no_panel_climbs_above_an_earlier_one(rt: HostRuntime) -> Result<(), Fail> {
     let mut cells = [NO_REACH; 128];
     let mut list = [NO_BOX; 3];
-    let mut sheet = Sheet::new(100, 60, 10, &mut cells, &mut list);
+    let mut sheet = Sheet::new(SIZE, &mut cells, &mut list);
     let Ok(slip) = sheet.open(WHOLE, Clear::None) else {
         return Err(Fail::new("the paragraph opens"));
     };
@@ -138,7 +146,7 @@ fn text_runs_round_a_staircase_met_in_mid_line(rt: HostRuntime) -> Result<(), Fa
     };
     let mut cells = [NO_REACH; 128];
     let mut list = [NO_BOX; 5];
-    let mut sheet = Sheet::new(100, 60, 10, &mut cells, &mut list);
+    let mut sheet = Sheet::new(SIZE, &mut cells, &mut list);
     let Ok(slip) = sheet.open(WHOLE, Clear::None) else {
         return Err(Fail::new("the paragraph opens"));
     };
@@ -168,7 +176,7 @@ fn an_open_line_keeps_its_place_of_the_list(rt: HostRuntime) -> Result<(), Fail>
     };
     let mut cells = [NO_REACH; 128];
     let mut list = [NO_BOX; 1];
-    let mut sheet = Sheet::new(100, 60, 10, &mut cells, &mut list);
+    let mut sheet = Sheet::new(SIZE, &mut cells, &mut list);
     let Ok(slip) = sheet.open(WHOLE, Clear::None) else {
         return Err(Fail::new("the paragraph opens"));
     };
@@ -189,8 +197,8 @@ fn two_sheets_know_nothing_of_each_other(rt: HostRuntime) -> Result<(), Fail> {
     let mut list = [NO_BOX; 2];
     let mut others = [NO_REACH; 128];
     let mut other_list = [NO_BOX; 2];
-    let mut sheet = Sheet::new(100, 60, 10, &mut cells, &mut list);
-    let mut other = Sheet::new(100, 60, 10, &mut others, &mut other_list);
+    let mut sheet = Sheet::new(SIZE, &mut cells, &mut list);
+    let mut other = Sheet::new(SIZE, &mut others, &mut other_list);
     let Ok(slip) = sheet.open(WHOLE, Clear::None) else {
         return Err(Fail::new("the paragraph opens"));
     };
@@ -214,14 +222,14 @@ fn two_sheets_know_nothing_of_each_other(rt: HostRuntime) -> Result<(), Fail> {
 fn no_edge_outlives_its_sheet(rt: HostRuntime) -> Result<(), Fail> {
     let mut cells = [NO_REACH; 128];
     let mut list = [NO_BOX; 2];
-    let mut sheet = Sheet::new(100, 60, 10, &mut cells, &mut list);
+    let mut sheet = Sheet::new(SIZE, &mut cells, &mut list);
     let Ok(slip) = sheet.open(WHOLE, Clear::None) else {
         return Err(Fail::new("the paragraph opens"));
     };
     let old = place(&mut sheet, Side::Left, 100, 60);
     spend(&mut sheet, slip);
     assert!(rt; stands(old, 0, 0));
-    let mut next = Sheet::new(100, 60, 10, &mut cells, &mut list);
+    let mut next = Sheet::new(SIZE, &mut cells, &mut list);
     let Ok(slip) = next.open(WHOLE, Clear::None) else {
         return Err(Fail::new("the next sheet's paragraph opens"));
     };

@@ -1,9 +1,10 @@
 -- Ending a paragraph. Assumes nothing.
-use Rattle.std.proofs.Common.{◌≡◌, ℕ, true, false, eqb, Some, None, sym, refl, ◌∙◌, eq-eqb, ne_eqb}
+use Rattle.std.proofs.Common.{◌≡◌, ℕ, ◌+◌, ◌≤◌, length, true, false, eqb, Some, None, sym, refl, ◌∙◌, eq-eqb, ne_eqb}
 use Rattle.rules.specs.declared.paragraphs.Paragraph.{Paragraph}
 use Rattle.rules.specs.declared.refusals.Refusal.TheVariants.{NoParagraph, WrongSlip}
+use Rattle.rules.specs.Account.{reserved}
 use Rattle.rules.specs.Runs.{ends, ended, refused, end_refused, end_done}
-use Rattle.sheet.specs.View.{View, FitList}
+use Rattle.sheet.specs.View.{View}
 use Rattle.sheet.specs.Told.{Told}
 use Rattle.sheet.specs.Steps.{Closed}
 use Rattle.sheet.proofs.Moves.{move, stay}
@@ -36,7 +37,7 @@ ended_view v = record {
   current = v.current;
 }
 
-pub end_own : (v w : View) (n : ℕ) (p : Paragraph) → FitList v → Closed v p.margins w → v.para ≡ Some p → p.number ≡ n → Told (ends n) ended v (ended_view w)
+pub end_own : (v w : View) (n : ℕ) (p : Paragraph) → v.used + reserved v.current ≤ length v.recs → Closed v p.margins w → v.para ≡ Some p → p.number ≡ n → Told (ends n) ended v (ended_view w)
 end_own v w n p few c t i z past k =
     let e : k.account.para ≡ Some p = para_of k.held t in
     let q : eqb n p.number ≡ true = eq-eqb n p.number (sym i) in

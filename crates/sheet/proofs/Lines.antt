@@ -1,5 +1,5 @@
 -- Words and lines. Assumes nothing.
-use Rattle.std.proofs.Common.{◌≡◌, ℕ, ◌+◌, ◌<◌, ◌≤◌, max, true, false, leb, List, ◌∷◌, length, set, Some, None, Ok, Err, Option, sym, refl, ap, ◌∙◌, subst, arith, length-set, leb-false}
+use Rattle.std.proofs.Common.{◌≡◌, ℕ, ◌+◌, ◌<◌, ◌≤◌, max, true, false, leb, List, ◌∷◌, length, set, Some, None, Ok, Err, Option, sym, refl, ap, ◌∙◌, subst, arith, length-set}
 use Rattle.places.specs.declared.parts.Span.{Span}
 use Rattle.places.specs.declared.parts.Line.{Line}
 use Rattle.places.specs.Panels.{Placed}
@@ -8,15 +8,15 @@ use Rattle.places.specs.Permitted.{Scene}
 use Rattle.places.specs.Theorems.{Sought}
 use Rattle.rows.specs.Told.{Tells}
 use Rattle.rows.specs.Asked.{sizes_of}
-use Rattle.rows.specs.Fit.{Fit as FitRows}
+use Rattle.rules.specs.declared.boxes.LineBox.{LineBox}
 use Rattle.rules.specs.declared.paragraphs.Paragraph.{Paragraph}
 use Rattle.rules.specs.declared.refusals.Refusal.TheVariants.{WideWord, ListFull, NoPlace}
 use Rattle.rules.specs.Account.{Size, rows_of, Account, scene, reserved, line_box, shut_boxes, below, start_row}
 use Rattle.rules.specs.Words.{Apart, longer, with_word, with_line, word_joins, word_opens, word_wide, word_full, word_none}
 use Rattle.rules.proofs.Single.{same_some}
-use Rattle.sheet.specs.View.{View, Boxed, Held, Fit, FitList, FitOpen, start_of}
+use Rattle.sheet.specs.View.{View, Boxed, Held, start_of}
 use Rattle.sheet.specs.Told.{Worded, WordTold}
-use Rattle.sheet.specs.Steps.{Joined, line_at, shut_at, Closed}
+use Rattle.sheet.specs.Steps.{Joined, box_at, line_at, shut_by, shut_at, Closed}
 use Rattle.sheet.proofs.Moves.{full_is, boxed_more}
 use Rattle.sheet.proofs.Panels.{sizes_are}
 
@@ -108,7 +108,7 @@ shut_held p x None e few edge h = record {
   current_is = e;
 }
 
-pub held_shut : {z : Size} {A : Account} (v w : View) (p : Paragraph) → Held z A v → FitList v → Closed v p.margins w → Held z (shut z A p A.current) w
+pub held_shut : {z : Size} {A : Account} (v w : View) (p : Paragraph) → Held z A v → v.used + reserved v.current ≤ length v.recs → Closed v p.margins w → Held z (shut z A p A.current) w
 held_shut {z} {A} v w p h few c =
     let edge : (l : Line) → v.current ≡ Some l → c.x ≡ (band p.margins A.placed l.top z.line).from = λ l is. c.edge l A.placed is h.tells ∙ ap (λ b. b.from) (band_is h p.margins l.top) in
     let x = shut_held {z = z} {A = A} {v = v} p c.x v.current refl few edge h in
@@ -171,7 +171,7 @@ with_top v t l = record {
 abbrev pub begun : ℕ → ℕ → Line
 begun t a = record { top = t; used = a; words = 1 }
 
-pub begins : (v w : View) (p : Paragraph) (sp a start t top : ℕ) → a ≤ room p.margins → FitList v → Joined v p.margins sp a None → leb (length v.recs) (v.used + reserved v.current) ≡ false → start ≡ start_of v.line v.cursor v.current → Seeking v p start a (Some t) → Closed v p.margins w → top ≡ max w.top t → WordTold p sp a (Ok tt) v (with_top w top (begun t a))
+pub begins : (v w : View) (p : Paragraph) (sp a start t top : ℕ) → a ≤ room p.margins → v.used + reserved v.current ≤ length v.recs → Joined v p.margins sp a None → leb (length v.recs) (v.used + reserved v.current) ≡ false → start ≡ start_of v.line v.cursor v.current → Seeking v p start a (Some t) → Closed v p.margins w → top ≡ max w.top t → WordTold p sp a (Ok tt) v (with_top w top (begun t a))
 begins v w p sp a start t top le few none nf at f c is z A h =
     let x = held_shut v w p h few c in (
       with_line z p A a t,
@@ -189,23 +189,10 @@ begins v w p sp a start t top le few none nf at f c is z A h =
       },
     )
 
--- a line begins where another, if any, closed
-pub fit_begun : (v w : View) (m : Span) (t : ℕ) (l : Line) → Fit v → Closed v m w → leb (length v.recs) (v.used + reserved v.current) ≡ false → FitOpen v.line v.rows l → Fit (with_top w t l)
-fit_begun v w m t l f c free fits =
-    let x = left v w m c in
-    let room = leb-false _ _ free in
-    record {
-      rows = subst (λ r. FitRows r) (sym x.rows) f.rows;
-      list = (let a = x.long in let b = x.used in omega arith);
-      line = subst (λ n. n ≤ 255) (sym x.line) f.line;
-      current = λ n i. subst (λ k. FitOpen w.line w.rows k) (same_some refl i) (subst (λ r. FitOpen w.line r l) (sym x.rows) (subst (λ n. FitOpen n v.rows l) (sym x.line) fits));
-      para = λ p e. subst (λ r. (p.margins.from < p.margins.to) × (p.margins.to ≤ r.width)) (sym x.rows) (f.para p (sym x.para ∙ e));
-    }
-
 -- what closing does, by the band that it finds
-pub closed_at : (v : View) (m : Span) (l : Line) (b : Span) → v.current ≡ Some l → ((qs : List Placed) → Tells v.rows qs → b ≡ band m qs l.top v.line) → Closed v m (shut_at b.from (Some l) v)
-closed_at v m l b e f = record {
+pub closed_at : (v : View) (m : Span) (l : Line) (b : Span) (x : LineBox) → v.current ≡ Some l → x ≡ box_at b.from l → ((qs : List Placed) → Tells v.rows qs → b ≡ band m qs l.top v.line) → Closed v m (shut_by x l v)
+closed_at v m l b x e is f = record {
   x = b.from;
   edge = λ k qs i t. ap (λ s. s.from) (f qs t) ∙ ap (λ n. (band m qs n.top v.line).from) (same_some e i);
-  after = ap (λ o. shut_at b.from o v) (sym e);
+  after = ap (λ y. shut_by y l v) is ∙ ap (λ o. shut_at b.from o v) (sym e);
 }

@@ -14,14 +14,11 @@ use Rattle.text.specs.declared.texts.Text.{Text}
 use Rattle.text.specs.Run.{largest, no_run, longer, width_of, has_room}
 use Rattle.text.specs.Measure.{FitAdvance, run_of, no_word}
 use Rattle.text.specs.Text.{words_in, runs_in}
-use Rattle.places.specs.declared.parts.Span.{Span}
 use Rattle.places.specs.declared.parts.Line.{Line}
-use Rattle.places.specs.Panels.{Placed}
-use Rattle.places.specs.Bands.{room, band}
-use Rattle.rows.specs.Told.{Tells}
 use Rattle.rules.specs.declared.paragraphs.Paragraph.{Paragraph}
 use Rattle.sheet.specs.View.{View}
 use Rattle.sheet.specs.Told.{Flowing}
+use Rattle.sheet.specs.Steps.{RoomLeft}
 use Rattle.sheet.specs.Stores.{advances_in}
 use Rattle.sheet.proofs.Lines.{with_current}
 use Rattle.sheet.proofs.Flows.{lengthened, grown, grown_is, stretched}
@@ -156,23 +153,20 @@ no_word_at t i is =
 
 -- The open line, with the words from i up to j joined to it
 
-abbrev pub stretched_line : Line → ℕ → ℕ → Run → Line
-stretched_line l sp w r = record { top = l.top; used = l.used + sp + w; words = l.words + r.count }
-
 same_line : (t u u' n n' : ℕ) → u ≡ u' → n ≡ n' → ◌≡◌ {A = Line} (record { top = t; used = u; words = n }) (record { top = t; used = u'; words = n' })
 same_line t u u' n n' p q = cc
 
-pub stretches : (v : View) (p : Paragraph) (t : Text) (sp i j w : ℕ) (l : Line) (b : Span) (r : Run) → sp ≡ t.space → v.current ≡ Some l → ((qs : List Placed) → Tells v.rows qs → b ≡ band p.margins qs l.top v.line)
-    → l.used + sp ≤ room b → i < j → Taken t sp (room b - (l.used + sp)) i j r → w ≡ width_of r sp → Flowing p t.space (advances_in t) i j v (with_current v (stretched_line l sp w r))
-stretches v p t sp i j w l b r is_sp is found fits lt k is_w =
+pub stretches : (v : View) (p : Paragraph) (t : Text) (sp i j n u : ℕ) (l : Line) (r : Run) → sp ≡ t.space → v.current ≡ Some l → RoomLeft v p.margins sp l (Some n)
+    → i < j → Taken t sp n i j r → u ≡ l.used + sp + width_of r sp → Flowing p t.space (advances_in t) i j v (with_current v (record { top = l.top; used = u; words = l.words + r.count }))
+stretches v p t sp i j n u l r is_sp is left lt k is_u =
     let ws = advances_in t in
     let xs = taken ws i j in
     let long = k.run.long l.used in
-    let line : grown sp xs l ≡ stretched_line l sp w r = grown_is sp xs l ∙ same_line _ _ _ _ _ (omega arith) (let n = k.run.count in omega arith) in
+    let line : grown sp xs l ≡ record { top = l.top; used = u; words = l.words + r.count } = grown_is sp xs l ∙ same_line _ _ _ _ _ (omega arith) (let n = k.run.count in omega arith) in
     let flows : Flowing p sp ws i j v (with_current v (grown sp xs l)) =
     stretched v p sp ws xs i j l is (taken_split ws i j (omega arith)) (taken_length ws i j (omega arith) k.in_list)
-    (λ qs told some. subst (λ s. lengthened sp xs l.used ≤ room s) (found qs told) (let f = k.fits in omega arith)) in
-    subst (λ s. Flowing p s ws i j v (with_current v (stretched_line l sp w r))) is_sp (subst (λ x. Flowing p sp ws i j v (with_current v x)) line flows)
+    (λ qs told some. omega (arith, left qs told, k.fits)) in
+    subst (λ s. Flowing p s ws i j v (with_current v (record { top = l.top; used = u; words = l.words + r.count }))) is_sp (subst (λ x. Flowing p sp ws i j v (with_current v x)) line flows)
 
 pub past_all : (t : Text) (i : ℕ) → length (words_in t) ≤ i → length (advances_in t) ≤ i
 past_all t i le = let long = length-map (words_in t) (λ w. w.advance) in omega arith

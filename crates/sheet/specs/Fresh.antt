@@ -1,8 +1,9 @@
 -- What a new sheet is. Assumes nothing.
---     new_refusal W H L n     why no sheet of this width, height and line height can be made over n cells, if there is a reason
---     new_size W H L n k      the size of the sheet that is made, with a list of k places; of a refused one, no rows
---     cells_used W H L n      how many cells it takes
---     Fresh .. s              s is that sheet: no calls came to it, and the rest of the memory is as it was
+--     new_refusal z n     why no sheet of this size can be made over n cells, if there is a reason
+--     full_size z k       the size z, with a list of k places
+--     new_size z n k      the size of the sheet that is made, with a list of k places; of a refused one, no rows
+--     cells_used z n      how many cells it takes
+--     Fresh .. s          s is that sheet: no calls came to it, and the rest of the memory is as it was
 use Rattle.std.specs.Prelude.{◌≡◌, ℕ, ◌*◌, Bool, not, ◌&&◌, List, [], ◌∷◌, length, drop, Some, None, Option, nat_le, nat_lt}
 use Rattle.segment_tree.specs.LeafCount.{leaf_count}
 use Rattle.shapes.specs.Form.{most_units}
@@ -12,9 +13,10 @@ use Rattle.rules.specs.declared.refusals.Refusal.{Refusal}
 use Rattle.rules.specs.declared.refusals.Refusal.TheVariants.{BadSize, FewCells}
 use Rattle.rules.specs.Refusals.{first}
 use Rattle.rules.specs.Account.{Size}
+use Rattle.sheet.specs.declared.sizes.SheetSize.{SheetSize}
 use Rattle.sheet.specs.declared.store.Store.{Store}
 use Rattle.rows.specs.declared.Rows.{Rows}
-use Rattle.sheet.specs.View.{View, Kept, Fit}
+use Rattle.sheet.specs.View.{View, Kept}
 use Rattle.sheet.specs.Stores.{view}
 
 -- the greatest line height
@@ -24,22 +26,25 @@ most_line = 255
 abbrev pub within : ℕ → ℕ → Bool
 within n most = nat_le 1 n && nat_le n most
 
-abbrev pub new_refusal : ℕ → ℕ → ℕ → ℕ → Option Refusal
-new_refusal W H L n = first ((not (within W most_units && (within H most_units && within L most_line)), BadSize) ∷ (nat_lt n (2 * leaf_count H), FewCells) ∷ [])
+abbrev pub new_refusal : SheetSize → ℕ → Option Refusal
+new_refusal z n = first ((not (within z.width most_units && (within z.height most_units && within z.line most_line)), BadSize) ∷ (nat_lt n (2 * leaf_count z.height), FewCells) ∷ [])
 
-abbrev pub size_of : Option Refusal → ℕ → ℕ → ℕ → ℕ → Size
-size_of (Some e) W H L k = record { width = 0; height = 0; line = 1; places = k }
-size_of None W H L k = record { width = W; height = H; line = L; places = k }
+abbrev pub full_size : SheetSize → ℕ → Size
+full_size z k = record { width = z.width; height = z.height; line = z.line; places = k }
 
-abbrev pub new_size : ℕ → ℕ → ℕ → ℕ → ℕ → Size
-new_size W H L n k = size_of (new_refusal W H L n) W H L k
+abbrev pub size_of : Option Refusal → SheetSize → ℕ → Size
+size_of (Some e) z k = record { width = 0; height = 0; line = 1; places = k }
+size_of None z k = full_size z k
+
+abbrev pub new_size : SheetSize → ℕ → ℕ → Size
+new_size z n k = size_of (new_refusal z n) z k
 
 abbrev pub used_of : Option Refusal → ℕ → ℕ
 used_of (Some e) H = 0
 used_of None H = 2 * leaf_count H
 
-abbrev pub cells_used : ℕ → ℕ → ℕ → ℕ → ℕ
-cells_used W H L n = used_of (new_refusal W H L n) H
+abbrev pub cells_used : SheetSize → ℕ → ℕ
+cells_used z n = used_of (new_refusal z n) z.height
 
 -- the fields of a sheet to which no call came
 abbrev pub empty_view : Rows → List BoxRecord → ℕ → View
@@ -56,8 +61,7 @@ empty_view rows list line = record {
   current = None;
 }
 
-pub record Fresh (W H L : ℕ) (cells : List Reach) (list : List BoxRecord) (s : Store) : Type 0 where
-  pub kept : Kept (new_size W H L (length cells) (length list)) [] (view s)
-  pub fit : Fit (view s)
+pub record Fresh (z : SheetSize) (cells : List Reach) (list : List BoxRecord) (s : Store) : Type 0 where
+  pub kept : Kept (new_size z (length cells) (length list)) [] (view s)
   pub list_is : s.list.now ≡ list
-  pub rest : drop (cells_used W H L (length cells)) s.rows.tree.cells.now ≡ drop (cells_used W H L (length cells)) cells
+  pub rest : drop (cells_used z (length cells)) s.rows.tree.cells.now ≡ drop (cells_used z (length cells)) cells

@@ -1,8 +1,10 @@
 -- How a sheet's fields are read, and what its calls answer, in the words of the account. Assumes nothing.
 --     view s            the fields of s
+--     Keeps s t         the list of t is that of s, and the records past those in use are what they were
+--     Sets s t          beside that, the rows and the open paragraph are what they were
 --     .._answer r       the answer r of a call
 --     advances_in t     the advances of a text's words
-use Rattle.std.specs.Prelude.{ℕ, List, map, Ok, Err, Result}
+use Rattle.std.specs.Prelude.{◌≡◌, ℕ, List, map, Ok, Err, Result}
 use Rattle.places.specs.declared.parts.Place.{Place}
 use Rattle.rules.specs.declared.refusals.Refusal.{Refusal}
 use Rattle.rules.specs.Runs.{Answer, opened, flowed, stands, ended, refused}
@@ -11,7 +13,7 @@ use Rattle.text.specs.Text.{words_in}
 use Rattle.sheet.specs.declared.answers.Flowed.{Flowed}
 use Rattle.sheet.specs.declared.slips.Slip.{Slip}
 use Rattle.sheet.specs.declared.store.Store.{Store}
-use Rattle.sheet.specs.View.{View}
+use Rattle.sheet.specs.View.{View, Rest}
 
 abbrev pub view : Store → View
 view s = record {
@@ -26,6 +28,15 @@ view s = record {
   para = s.para;
   current = s.current;
 }
+
+pub record Keeps (s t : Store) : Type 0 where
+  pub named : t.list.ghost_name ≡ s.list.ghost_name
+  pub rest : Rest (view s) (view t)
+
+pub record Sets (s t : Store) : Type 0 where
+  pub keeps : Keeps s t
+  pub rows : t.rows ≡ s.rows
+  pub para : t.para ≡ s.para
 
 abbrev pub open_answer : Result Slip Refusal → Answer
 open_answer (Ok s) = opened s.number

@@ -3,7 +3,6 @@
 --     Held z A v    the fields v hold the account A of a sheet of size z
 --     Kept z es v   the calls es came to a new sheet of size z, with these answers, and the fields v hold the account of them
 --     Reached v     some calls led to v from a new sheet
---     Fit v         what keeps each index and each sum in its range
 --     Rest v w      the records past those in use are in w what they were in v
 --     start_of ..   the first row open to a new line
 --     number_in o   the number of the open paragraph o, if there is one
@@ -13,11 +12,10 @@ use Rattle.places.specs.Tried.{panel_tops, greatest}
 use Rattle.reaches.specs.declared.reach.Reach.{Reach}
 use Rattle.reaches.specs.Reaches.{no_reach, farther}
 use Rattle.rows.specs.declared.Rows.{Rows}
-use Rattle.rows.specs.Fit.{Fit as FitRows}
 use Rattle.rows.specs.Told.{Tells}
 use Rattle.rules.specs.declared.boxes.BoxRecord.{BoxRecord}
 use Rattle.rules.specs.declared.paragraphs.Paragraph.{Paragraph}
-use Rattle.rules.specs.Account.{Size, Account, reserved}
+use Rattle.rules.specs.Account.{Size, Account}
 use Rattle.rules.specs.Runs.{Event, Run}
 use Rattle.sheet.specs.declared.clearance.Bottoms.{Bottoms}
 use Rattle.sheet.specs.Clearance.{bottoms_of}
@@ -64,45 +62,6 @@ pub record Kept (z : Size) (past : List Event) (v : View) : Type 0 where
 
 abbrev pub Reached : View → Type 0
 Reached v = ∥ record { size : Size; past : List Event; kept : Kept size past v } ∥₁
-
-abbrev pub FitList : View → Type 0
-FitList v = v.used + reserved v.current ≤ length v.recs
-
-abbrev pub FitLine : View → Type 0
-FitLine v = v.line ≤ 255
-
--- the open line ends on the sheet, and each of its words takes a unit or more
-pub record FitOpen (line : ℕ) (rows : Rows) (l : Line) : Type 0 where
-  pub low : l.top + line ≤ rows.height
-  pub words : l.words ≤ l.used
-
-abbrev pub FitCurrent : View → Type 0
-FitCurrent v = (l : Line) → v.current ≡ Some l → FitOpen v.line v.rows l
-
--- the same, one fact each
-abbrev pub FitLow : View → Type 0
-FitLow v = (l : Line) → v.current ≡ Some l → l.top + v.line ≤ v.rows.height
-
-abbrev pub FitWords : View → Type 0
-FitWords v = (l : Line) → v.current ≡ Some l → l.words ≤ l.used
-
-abbrev pub FitPara : View → Type 0
-FitPara v = (p : Paragraph) → v.para ≡ Some p → (p.margins.from < p.margins.to) × (p.margins.to ≤ v.rows.width)
-
-pub record Fit (v : View) : Type 0 where
-  pub rows : FitRows v.rows
-  pub list : FitList v
-  pub line : FitLine v
-  pub current : FitCurrent v
-  pub para : FitPara v
-
--- two reaches with the same numbers
-abbrev pub Alike : Reach → Reach → Type 0
-Alike a b = (a.box_left ≡ b.box_left) × (a.box_right ≡ b.box_right) × (a.area_left ≡ b.area_left) × (a.area_right ≡ b.area_right)
-
--- each inner cell of the tree of rows is the join of the two below it, number by number
-abbrev pub FitSums : View → Type 0
-FitSums v = (k : ℕ) → (0 < k) × (k < v.rows.tree.size) → Alike (slice_index_or v.rows.tree.cells.now k no_reach) (farther (slice_index_or v.rows.tree.cells.now (2 * k) no_reach) (slice_index_or v.rows.tree.cells.now (2 * k + 1) no_reach))
 
 pub record Rest (v w : View) : Type 0 where
   pub grows : v.used ≤ w.used

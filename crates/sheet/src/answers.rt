@@ -2,7 +2,8 @@
 use rules::boxes::BoxRecord;
 use rules::refusals::Refusal;
 
-// How many words were set, and why the next was not, if there is a next.
+// How many words were set, and why the next was not, if there is a next. It is no `Result`: both parts are wanted in both
+// cases.
 #[derive(Clone, Copy)]
 pub struct Flowed {
     pub set: usize,

@@ -5,7 +5,7 @@ ghost use Rattle.sheet.specs.Clearance.{lowest, with_bottom};
 use shapes::sides::{Clear, Side};
 
 // The greatest bottom of the panels of each side, 0 where there is none.
-#[derive(Clone, Copy)]
+#[derive(Clone, Copy, Default)]
 pub struct Bottoms {
     pub left: u32,
     pub right: u32,
@@ -31,11 +31,11 @@ impl Bottoms {
         match side {
             Side::Left => Bottoms {
                 left: bottom.max(self.left),
-                right: self.right,
+                ..self
             },
             Side::Right => Bottoms {
-                left: self.left,
                 right: bottom.max(self.right),
+                ..self
             },
         }
     }

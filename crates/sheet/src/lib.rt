@@ -10,6 +10,9 @@ pub(crate) mod clearance;
 // The sheet, with its invariant, and its calls.
 pub mod sheet;
 
+// The size of a sheet.
+pub mod sizes;
+
 // The right to end a paragraph.
 pub mod slips;
 

@@ -1,6 +1,5 @@
 // A sheet over lent memory: a store that some calls led to.
-ghost use Rattle.std.specs.Prelude.{◌≡◌, ◌*◌, ◌≤◌, length};
-ghost use Rattle.sheet.specs.View.{FitSums, FitList, FitLine, FitLow, FitWords, FitPara, Reached};
+ghost use Rattle.sheet.specs.View.{Reached};
 ghost use Rattle.sheet.specs.Stores.{view};
 
 use crate::store::Store;
@@ -11,19 +10,6 @@ pub mod calls;
 #[derive(Drop)]
 pub struct Sheet<'a> {
     store: Store<'a>,
-    // The tree of rows is sound, and has an element for each row.
-    ghost few: { store.rows.tree.count ≤ store.rows.tree.size },
-    ghost long: { 2 * store.rows.tree.size ≤ length store.rows.tree.cells.now },
-    ghost sums: { FitSums (view store) },
-    ghost count: { store.rows.tree.count ≡ store.rows.height },
-    // Sizes, the list and the open line stay in their ranges.
-    ghost wide: { store.rows.width ≤ 4096 },
-    ghost high: { store.rows.height ≤ 4096 },
-    ghost list: { FitList (view store) },
-    ghost line: { FitLine (view store) },
-    ghost low: { FitLow (view store) },
-    ghost words: { FitWords (view store) },
-    ghost para: { FitPara (view store) },
     // Some calls led here from a new sheet.
     ghost reached: { Reached (view store) },
 }

@@ -1,6 +1,8 @@
-// What a sheet holds. It has no ghost field, so that its parts can be lent one after the other; `Sheet` holds one with
-// its invariant.
-ghost use Rattle.std.specs.Prelude.{◌≡◌, ◌≤◌, length, take};
+// What a sheet holds, with what keeps each index and each sum in its range. `Sheet` holds one that some calls led to.
+ghost use Rattle.std.specs.Prelude.{◌≡◌, ◌+◌, ◌<◌, ◌≤◌, length, take, Some};
+ghost use Rattle.places.specs.declared.parts.Line.{Line};
+ghost use Rattle.rules.specs.Account.{reserved};
+ghost use Rattle.rules.specs.declared.paragraphs.Paragraph.{Paragraph};
 
 use crate::clearance::Bottoms;
 use places::parts::Line;
@@ -36,14 +38,24 @@ pub struct Store<'a> {
     pub(crate) count: u16,
     pub(crate) para: Option<Paragraph>,
     pub(crate) current: Option<Line>,
+    // Sizes stay in their ranges.
+    ghost wide: { rows.width ≤ 4096 },
+    ghost high: { rows.height ≤ 4096 },
+    ghost low: { line ≤ 255 },
+    // The list has a place for the open line.
+    ghost places: { used + reserved current ≤ length list.now },
+    // The open line ends on the sheet, and each of its words takes a unit or more.
+    ghost ends: { (l : Line) → current ≡ Some l → l.top + line ≤ rows.height },
+    ghost words: { (l : Line) → current ≡ Some l → l.words ≤ l.used },
+    // The open paragraph's margins leave a unit, and end on the sheet.
+    ghost margins: { (p : Paragraph) → para ≡ Some p → (p.margins.from < p.margins.to) × (p.margins.to ≤ rows.width) },
 }
 
 impl<'a> Store<'a> {
     // The records in use.
     pub(crate) fn boxes(&self) -> &[BoxRecord]
-        requires { self.now.used ≤ length self.now.list.now }
         ensures { result.now ≡ take self.now.used self.now.list.now }
     {
-        &self.list[0..self.used]
+        &self.list[..self.used]
     }
 }

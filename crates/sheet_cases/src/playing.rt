@@ -11,8 +11,16 @@ use shapes::plain::Plain;
 use shapes::sides::{Clear, Side};
 use sheet::answers::Flowed;
 use sheet::sheet::Sheet;
+use sheet::sizes::SheetSize;
 use sheet::slips::Slip;
 use text::{Run, Word, measure};
+
+// The size of a sheet, with lines of 10 rows.
+pub(crate) const SIZE: SheetSize = SheetSize {
+    width: 100,
+    height: 60,
+    line: 10,
+};
 
 // The margins of a whole sheet.
 pub(crate) const WHOLE: Span = Span { from: 0, to: 100 };
@@ -138,7 +146,7 @@ fn asked(sheet: &mut Sheet<'_>, ask: Ask<'_>) -> Told
 pub(crate) fn last(first: Ask<'_>, second: Ask<'_>, third: Ask<'_>) -> Told {
     let mut cells = [NO_REACH; 128];
     let mut list = [NO_BOX; 9];
-    let mut sheet = Sheet::new(100, 60, 10, &mut cells, &mut list);
+    let mut sheet = Sheet::new(SIZE, &mut cells, &mut list);
     let Ok(slip) = sheet.open(WHOLE, Clear::None) else {
         return Told::Nothing;
     };

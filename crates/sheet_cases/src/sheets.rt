@@ -1,11 +1,13 @@
 // Whole sheets: their lists, their open lines, their memory.
-use crate::playing::{NO_BOX, NO_REACH, WHOLE, flow, place, spend};
-use rules::boxes::BoxRecord;
+use crate::playing::{NO_BOX, NO_REACH, SIZE, WHOLE, flow, place, spend};
+use reaches::reach::Reach;
+use rules::boxes::{BoxRecord, LineBox};
 use shapes::orders::Order;
 use shapes::sides::{Clear, Side};
 use shapes::stairs::{Stairs, Step};
 use sheet::fault;
 use sheet::sheet::Sheet;
+use sheet::sizes::SheetSize;
 use std::test::Fail;
 
 // Whether this record is a line's, at this place, so wide, with so many words.
@@ -23,7 +25,7 @@ fn is_line(record: Option<&BoxRecord>, x: u32, y: u32, width: u32, words: u32) -
 fn a_full_list_takes_no_panel(rt: HostRuntime) -> Result<(), Fail> {
     let mut cells = [NO_REACH; 128];
     let mut list = [NO_BOX; 2];
-    let mut sheet = Sheet::new(100, 60, 10, &mut cells, &mut list);
+    let mut sheet = Sheet::new(SIZE, &mut cells, &mut list);
     let Ok(slip) = sheet.open(WHOLE, Clear::None) else {
         return Err(Fail::new("the paragraph opens"));
     };
@@ -40,7 +42,7 @@ fn a_full_list_takes_no_panel(rt: HostRuntime) -> Result<(), Fail> {
 fn an_open_line_keeps_its_place_of_the_list(rt: HostRuntime) -> Result<(), Fail> {
     let mut cells = [NO_REACH; 128];
     let mut list = [NO_BOX; 1];
-    let mut sheet = Sheet::new(100, 60, 10, &mut cells, &mut list);
+    let mut sheet = Sheet::new(SIZE, &mut cells, &mut list);
     let Ok(slip) = sheet.open(WHOLE, Clear::None) else {
         return Err(Fail::new("the paragraph opens"));
     };
@@ -72,7 +74,7 @@ fn text_runs_round_a_staircase_met_in_mid_line(rt: HostRuntime) -> Result<(), Fa
     };
     let mut cells = [NO_REACH; 128];
     let mut list = [NO_BOX; 9];
-    let mut sheet = Sheet::new(100, 60, 10, &mut cells, &mut list);
+    let mut sheet = Sheet::new(SIZE, &mut cells, &mut list);
     let Ok(slip) = sheet.open(WHOLE, Clear::None) else {
         return Err(Fail::new("the paragraph opens"));
     };
@@ -101,8 +103,8 @@ fn two_sheets_know_nothing_of_each_other(rt: HostRuntime) -> Result<(), Fail> {
     let mut list = [NO_BOX; 2];
     let mut others = [NO_REACH; 128];
     let mut other_list = [NO_BOX; 2];
-    let mut sheet = Sheet::new(100, 60, 10, &mut cells, &mut list);
-    let mut other = Sheet::new(100, 60, 10, &mut others, &mut other_list);
+    let mut sheet = Sheet::new(SIZE, &mut cells, &mut list);
+    let mut other = Sheet::new(SIZE, &mut others, &mut other_list);
     let Ok(slip) = sheet.open(WHOLE, Clear::None) else {
         return Err(Fail::new("the paragraph opens"));
     };
@@ -124,14 +126,14 @@ fn two_sheets_know_nothing_of_each_other(rt: HostRuntime) -> Result<(), Fail> {
 fn no_edge_outlives_its_sheet(rt: HostRuntime) -> Result<(), Fail> {
     let mut cells = [NO_REACH; 128];
     let mut list = [NO_BOX; 2];
-    let mut sheet = Sheet::new(100, 60, 10, &mut cells, &mut list);
+    let mut sheet = Sheet::new(SIZE, &mut cells, &mut list);
     let Ok(slip) = sheet.open(WHOLE, Clear::None) else {
         return Err(Fail::new("the paragraph opens"));
     };
     let old = place(&mut sheet, Side::Left, 100, 60, Clear::None);
     spend(&mut sheet, slip);
     assert!(rt; old.is_at(0, 0));
-    let mut next = Sheet::new(100, 60, 10, &mut cells, &mut list);
+    let mut next = Sheet::new(SIZE, &mut cells, &mut list);
     let Ok(slip) = next.open(WHOLE, Clear::None) else {
         return Err(Fail::new("the next sheet's paragraph opens"));
     };
@@ -144,8 +146,56 @@ fn no_edge_outlives_its_sheet(rt: HostRuntime) -> Result<(), Fail> {
 
 #[test]
 fn sheets_that_cannot_be_had(rt: HostRuntime) -> Result<(), Fail> {
-    assert!(rt; fault(100, 60, 10, 128).is_none());
-    assert_eq!(rt; fault(4097, 60, 10, 128).ok_or("too wide")?.number(), 1);
-    assert_eq!(rt; fault(100, 60, 10, 127).ok_or("too few cells")?.number(), 2);
+    let wide = SheetSize {
+        width: 4097,
+        ..SIZE
+    };
+    assert!(rt; fault(SIZE, 128).is_none());
+    assert_eq!(rt; fault(wide, 128).ok_or("too wide")?.number(), 1);
+    assert_eq!(rt; fault(SIZE, 127).ok_or("too few cells")?.number(), 2);
+    Ok(())
+}
+
+// The number of the refusal of a sheet of this size, if it is refused.
+fn refused(size: SheetSize, cells: &mut [Reach], list: &mut [BoxRecord]) -> Option<u8> {
+    match Sheet::try_new(size, cells, list) {
+        Ok(_) => None,
+        Err(refusal) => Some(refusal.number()),
+    }
+}
+
+// After a refusal the list holds what it held.
+#[test]
+fn no_sheet_of_a_refused_size(rt: HostRuntime) -> Result<(), Fail> {
+    let mut cells = [NO_REACH; 128];
+    let mut few = [NO_REACH; 127];
+    let mut list = [BoxRecord::Line(LineBox {
+        x: 1,
+        y: 2,
+        width: 3,
+        words: 4,
+    }); 2];
+    let low = SheetSize { line: 0, ..SIZE };
+    assert_eq!(rt; refused(low, &mut cells, &mut list), Some(1));
+    assert_eq!(rt; refused(SIZE, &mut few, &mut list), Some(2));
+    assert!(rt; is_line(list.get(1), 1, 2, 3, 4));
+    assert_eq!(rt; refused(SIZE, &mut cells, &mut list), None);
+    Ok(())
+}
+
+#[test]
+fn a_sheet_of_its_whole_size(rt: HostRuntime) -> Result<(), Fail> {
+    let mut cells = [NO_REACH; 128];
+    let mut list = [NO_BOX; 2];
+    let Ok(mut sheet) = Sheet::try_new(SIZE, &mut cells, &mut list) else {
+        return Err(Fail::new("the sheet is made"));
+    };
+    let Ok(slip) = sheet.open(WHOLE, Clear::None) else {
+        return Err(Fail::new("the paragraph opens"));
+    };
+    let panel = place(&mut sheet, Side::Left, 100, 60, Clear::None);
+    spend(&mut sheet, slip);
+    assert!(rt; panel.is_at(0, 0));
+    assert_eq!(rt; sheet.totals().panels, 1);
     Ok(())
 }

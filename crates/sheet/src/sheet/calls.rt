@@ -1,18 +1,22 @@
 // The calls of a sheet. Each is one call of its store, and bears the law over all calls before it.
-ghost use Rattle.std.specs.Prelude.{◌≡◌, true, [], length, drop, is_some, is_ok, IfOk, IfErr, Some, OnErr, OnOk};
+ghost use Rattle.std.specs.Prelude.{◌≡◌, ◌*◌, true, [], length, drop, is_some, is_ok, IfOk, IfErr, Some, OnErr, OnOk};
+ghost use Rattle.std.specs.Result.{result_err};
+ghost use Rattle.segment_tree.specs.LeafCount.{leaf_count};
 ghost use Rattle.rows.specs.Asked.{wanted};
 ghost use Rattle.rows.specs.Fit.{Stays};
 ghost use Rattle.rules.specs.Boxes.{totals_of};
 ghost use Rattle.rules.specs.Runs.{opens, flows, panels, ends};
 ghost use Rattle.sheet.specs.View.{Rest};
-ghost use Rattle.sheet.specs.Fresh.{new_refusal, new_size, cells_used};
+ghost use Rattle.sheet.specs.Fresh.{new_refusal, new_size, full_size, cells_used};
 ghost use Rattle.sheet.specs.Stores.{open_answer, panel_answer, flow_answer, end_answer, advances_in};
 ghost use Rattle.sheet.specs.Sheets.{fields, open_number, boxes_in, Past, Tells, Ever, Shows, Lists};
 
 use super::Sheet;
 use crate::answers::{Finished, Flowed};
+use crate::sizes::SheetSize;
 use crate::slips::Slip;
 use crate::store::Store;
+use crate::store::make::fault;
 use places::parts::{Place, Span};
 use reaches::reach::Reach;
 use rules::boxes::{BoxRecord, LineBox, Totals, totalled};
@@ -25,20 +29,33 @@ use text::Text;
 impl<'a> Sheet<'a> {
     // A new sheet over lent cells and a lent list. Of a size that `fault` refuses it makes one whose opens are all
     // refused, and writes nothing.
-    pub fn new(
-        width: u32,
-        height: u32,
-        line: u32,
-        cells: &'a mut [Reach],
-        list: &'a mut [BoxRecord],
-    ) -> Sheet<'a>
-        ensures account { Past (new_size width height line (length cells.old) (length list.old)) [] result }
+    pub fn new(size: SheetSize, cells: &'a mut [Reach], list: &'a mut [BoxRecord]) -> Sheet<'a>
+        ensures account { Past (new_size size (length cells.old) (length list.old)) [] result }
         ensures named { result.store.list.ghost_name ≡ list.entry.ghost_name }
         ensures list { result.store.list.now ≡ list.old }
-        ensures rest { drop (cells_used width height line (length cells.old)) result.store.rows.tree.cells.now ≡ drop (cells_used width height line (length cells.old)) cells.old }
+        ensures rest { drop (cells_used size (length cells.old)) result.store.rows.tree.cells.now ≡ drop (cells_used size (length cells.old)) cells.old }
     {
-        let store = Store::new(width, height, line, cells, list);
+        let store = Store::new(size, cells, list);
         Sheet { store }
+    }
+
+    // A new sheet of just this size over lent cells and a lent list, or the refusal that `fault` tells. Then nothing is
+    // written, which no clause can say: a reference that may go into the result has no value after the call.
+    pub fn try_new(
+        size: SheetSize,
+        cells: &'a mut [Reach],
+        list: &'a mut [BoxRecord],
+    ) -> Result<Sheet<'a>, Refusal>
+        ensures refused { result_err result ≡ new_refusal size (length cells.old) }
+        ensures account { IfOk result (λ s. Past (full_size size (length list.old)) [] s) }
+        ensures named { IfOk result (λ s. s.store.list.ghost_name ≡ list.entry.ghost_name) }
+        ensures list { IfOk result (λ s. s.store.list.now ≡ list.old) }
+        ensures rest { IfOk result (λ s. drop (2 * leaf_count size.height) s.store.rows.tree.cells.now ≡ drop (2 * leaf_count size.height) cells.old) }
+    {
+        match fault(size, cells.len()) {
+            Some(refusal) => Err(refusal),
+            None => Ok(Sheet::new(size, cells, list)),
+        }
     }
 
     // Opens a paragraph between margins, below the panels of the cleared sides. The slip is for `end`.
@@ -123,9 +140,7 @@ impl<'a> Sheet<'a> {
     {
         let Sheet { store } = self;
         let Store { list, used, .. } = store;
-        Finished {
-            boxes: &list[0..used],
-            spare: &list[used..],
-        }
+        let (boxes, spare) = list.split_at(used);
+        Finished { boxes, spare }
     }
 }

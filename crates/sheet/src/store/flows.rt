@@ -1,9 +1,8 @@
 // Setting the words of a text.
 ghost use Rattle.std.specs.Prelude.{◌≡◌, ◌≤◌, true, is_some, Some};
 ghost use Rattle.rules.specs.Runs.{flows};
-ghost use Rattle.sheet.specs.View.{Fit, Rest};
 ghost use Rattle.sheet.specs.Told.{Told, Flowing};
-ghost use Rattle.sheet.specs.Stores.{view, advances_in, flow_answer};
+ghost use Rattle.sheet.specs.Stores.{view, Sets, advances_in, flow_answer};
 
 use crate::answers::Flowed;
 use crate::store::Store;
@@ -15,39 +14,26 @@ use text::{Room, Text};
 impl<'a> Store<'a> {
     // Joins to the open line, at once, the words from `from` on that it has room for, and answers which comes next.
     fn stretch(&mut self, para: Paragraph, text: &Text<'_>, from: usize) -> usize
-        requires fit { Fit (view self.old) }
-        requires para { self.old.para ≡ Some para }
+        requires { self.old.para ≡ Some para }
         ensures on { from ≤ result }
-        ensures fit { Fit (view self.new) }
-        ensures named { self.new.list.ghost_name ≡ self.old.list.ghost_name }
-        ensures rest { Rest (view self.old) (view self.new) }
-        ensures rows { self.new.rows ≡ self.old.rows }
-        ensures para { self.new.para ≡ self.old.para }
+        ensures sets { Sets self.old self.new }
         ensures account { Flowing para text.now.space (advances_in text.now) from result (view self.old) (view self.new) }
     {
         let Some(words) = self.current else {
             return from;
         };
-        let line = self.line;
-        let band = self.rows.band(para.margins, words.top, line);
         let space = text.space();
-        let taken = words.used as u64 + space as u64;
-        let room = band.to.saturating_sub(band.from) as u64;
-        if room < taken {
+        let Some(width) = self.room_left(words, para.margins, space) else {
             return from;
-        }
-        let limit = Room {
-            width: (room - taken) as u32,
-            space,
         };
-        let to = text.longest_run(from, &limit);
-        let run = text.fold(from, to);
+        let to = text.longest_run(from, &Room { width, space });
         if to <= from {
             return from;
         }
+        let run = text.fold(from, to);
         self.current = Some(Line {
             top: words.top,
-            used: (taken + run.width(space)) as u32,
+            used: words.used + u32::from(space) + run.width(space) as u32,
             words: words.words + run.count,
         });
         to
@@ -55,13 +41,8 @@ impl<'a> Store<'a> {
 
     // Sets the words from a given one on, up to the first that is refused.
     pub(crate) fn flow(&mut self, text: &Text<'_>, from: usize) -> Flowed
-        requires { Fit (view self.old) }
-        ensures fit { Fit (view self.new) }
-        ensures named { self.new.list.ghost_name ≡ self.old.list.ghost_name }
+        ensures sets { Sets self.old self.new }
         ensures same { result.set ≡ 0 → is_some result.stopped ≡ true → view self.new ≡ view self.old }
-        ensures rest { Rest (view self.old) (view self.new) }
-        ensures rows { self.new.rows ≡ self.old.rows }
-        ensures para { self.new.para ≡ self.old.para }
         ensures account { Told (flows (advances_in text.now) text.now.space from) (flow_answer result) (view self.old) (view self.new) }
     {
         let Some(para) = self.para else {
@@ -72,17 +53,18 @@ impl<'a> Store<'a> {
         };
         let count = text.count();
         let mut i = from;
+        // A round sets all words that a line has room for, so it goes on by more than one.
         while i < count {
             let Some(word) = text.word(i) else {
-                unreachable()
+                unreachable!()
             };
-            match self.word(para, word.advance, text.space()) {
-                Ok(()) => i = self.stretch(para, text, i + 1),
-                Err(e) => return Flowed {
+            if let Err(refusal) = self.word(para, word.advance, text.space()) {
+                return Flowed {
                     set: i - from,
-                    stopped: Some(e),
-                },
+                    stopped: Some(refusal),
+                };
             }
+            i = self.stretch(para, text, i + 1);
         }
         Flowed {
             set: i - from,

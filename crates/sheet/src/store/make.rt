@@ -1,9 +1,11 @@
 // A new sheet.
-ghost use Rattle.std.specs.Prelude.{◌≡◌, ◌&&◌, length};
+ghost use Rattle.std.specs.Prelude.{◌≡◌, ◌≤◌, length};
+ghost use Rattle.rows.specs.Fit.{Fit};
 ghost use Rattle.sheet.specs.Stores.{view};
-ghost use Rattle.sheet.specs.Fresh.{within, new_refusal, empty_view, Fresh};
+ghost use Rattle.sheet.specs.Fresh.{new_refusal, empty_view, Fresh};
 
 use crate::clearance::Bottoms;
+use crate::sizes::SheetSize;
 use crate::store::Store;
 use reaches::reach::Reach;
 use rows::Rows;
@@ -16,30 +18,23 @@ const MOST_UNITS: u32 = 4096;
 
 const MOST_LINE: u32 = 255;
 
-// Whether n is from 1 to `most`.
-fn is_within(n: u32, most: u32) -> bool
-    ensures { result ≡ within n most }
-{
-    1 <= n && n <= most
-}
-
 // Why no sheet of this size can be made over so many cells.
-pub fn fault(width: u32, height: u32, line: u32, cells: usize) -> Option<Refusal>
-    ensures { result ≡ new_refusal width height line cells }
+pub fn fault(size: SheetSize, cells: usize) -> Option<Refusal>
+    ensures { result ≡ new_refusal size cells }
 {
-    if !(is_within(width, MOST_UNITS)
-        && (is_within(height, MOST_UNITS) && is_within(line, MOST_LINE)))
-    {
+    let is_within = (1..=MOST_UNITS).contains(&size.width)
+        && (1..=MOST_UNITS).contains(&size.height)
+        && (1..=MOST_LINE).contains(&size.line);
+    if !is_within {
         return Some(Refusal::BadSize);
     }
-    if !enough(cells, height as usize) {
-        return Some(Refusal::FewCells);
-    }
-    None
+    (!enough(cells, size.height as usize)).then_some(Refusal::FewCells)
 }
 
 // A sheet with nothing on it, over these rows and this list.
 fn empty<'a>(rows: Rows<'a>, list: &'a mut [BoxRecord], line: u32) -> Store<'a>
+    requires rows { Fit rows }
+    requires low { line ≤ 255 }
     ensures view { view result ≡ empty_view rows.entry list.old line }
     ensures named { result.list.ghost_name ≡ list.entry.ghost_name }
 {
@@ -49,7 +44,7 @@ fn empty<'a>(rows: Rows<'a>, list: &'a mut [BoxRecord], line: u32) -> Store<'a>
         line,
         used: 0,
         top: 0,
-        bottoms: Bottoms { left: 0, right: 0 },
+        bottoms: Bottoms::default(),
         cursor: 0,
         count: 0,
         para: None,
@@ -60,21 +55,19 @@ fn empty<'a>(rows: Rows<'a>, list: &'a mut [BoxRecord], line: u32) -> Store<'a>
 impl<'a> Store<'a> {
     // A new sheet. Of a size that `fault` refuses it makes one with no rows, and writes nothing.
     pub(crate) fn new(
-        width: u32,
-        height: u32,
-        line: u32,
+        size: SheetSize,
         cells: &'a mut [Reach],
         list: &'a mut [BoxRecord],
     ) -> Store<'a>
-        ensures fresh { Fresh width height line cells.old list.old result }
+        ensures fresh { Fresh size cells.old list.old result }
         ensures named { result.list.ghost_name ≡ list.entry.ghost_name }
     {
-        if fault(width, height, line, cells.len()).is_some() {
+        if fault(size, cells.len()).is_some() {
             return empty(Rows::vacant(cells), list, 1);
         }
-        let Some(rows) = Rows::new(cells, width, height) else {
+        let Some(rows) = Rows::new(cells, size.width, size.height) else {
             unreachable()
         };
-        empty(rows, list, line)
+        empty(rows, list, size.line)
     }
 }

@@ -3,12 +3,12 @@ ghost use Rattle.std.specs.Prelude.{◌≡◌, OnErr, OnOk};
 ghost use Rattle.rows.specs.Asked.{wanted};
 ghost use Rattle.rows.specs.Fit.{Stays};
 ghost use Rattle.rules.specs.Runs.{panels};
-ghost use Rattle.sheet.specs.View.{Fit, Rest};
 ghost use Rattle.sheet.specs.Told.{Told};
-ghost use Rattle.sheet.specs.Stores.{view, panel_answer};
+ghost use Rattle.sheet.specs.Stores.{view, Keeps, panel_answer};
 
 use crate::store::Store;
 use places::parts::Place;
+use rows::ground::Ground;
 use rules::boxes::{BoxRecord, PanelBox};
 use rules::refusals::Refusal;
 use shapes::Shape;
@@ -16,18 +16,13 @@ use shapes::orders::Order;
 
 impl<'a> Store<'a> {
     pub(crate) fn panel<S: Shape + Drop>(&mut self, order: Order<S>) -> Result<Place, Refusal>
-        requires { Fit (view self.old) }
-        ensures fit { Fit (view self.new) }
-        ensures named { self.new.list.ghost_name ≡ self.old.list.ghost_name }
+        ensures keeps { Keeps self.old self.new }
         ensures same { OnErr result (view self.new ≡ view self.old) }
-        ensures rest { Rest (view self.old) (view self.new) }
         ensures rows { OnOk result (Stays self.old.rows self.new.rows) }
         ensures para { self.new.para ≡ self.old.para }
         ensures account { Told (panels (wanted order.side order.clear (S.model order.shape))) (panel_answer result) (view self.old) (view self.new) }
     {
-        let Some(para) = self.para else {
-            return Err(Refusal::NoParagraph);
-        };
+        let para = self.para.ok_or(Refusal::NoParagraph)?;
         let width = order.shape.width();
         if width > para.margins.to - para.margins.from {
             return Err(Refusal::WidePanel);
@@ -40,25 +35,27 @@ impl<'a> Store<'a> {
             .top
             .max(para.top)
             .max(self.bottoms.cleared(order.clear));
-        let line = self.line;
-        let current = self.current;
-        match self.rows.best_place(para.margins, line, current, start, order.side, &order.shape) {
-            None => Err(Refusal::NoPlace),
-            Some(place) => {
-                let height = order.shape.height();
-                self.rows.take_in(order.side, place, &order.shape);
-                self.list[self.used] = BoxRecord::Panel(PanelBox {
-                    side: order.side,
-                    x: place.x,
-                    y: place.y,
-                    width,
-                    height,
-                });
-                self.used += 1;
-                self.top = place.y;
-                self.bottoms = self.bottoms.with(order.side, place.y + height);
-                Ok(place)
-            }
-        }
+        let ground = Ground {
+            margins: para.margins,
+            line: self.line,
+            current: self.current,
+        };
+        let place = self
+            .rows
+            .best_place(ground, start, order.side, &order.shape)
+            .ok_or(Refusal::NoPlace)?;
+        let height = order.shape.height();
+        self.rows.take_in(order.side, place, &order.shape);
+        self.list[self.used] = BoxRecord::Panel(PanelBox {
+            side: order.side,
+            x: place.x,
+            y: place.y,
+            width,
+            height,
+        });
+        self.used += 1;
+        self.top = place.y;
+        self.bottoms = self.bottoms.with(order.side, place.y + height);
+        Ok(place)
     }
 }

@@ -1,9 +1,9 @@
 // Opening and ending a paragraph.
 ghost use Rattle.std.specs.Prelude.{◌≡◌, true, ◌&&◌, is_ok, IfOk, IfErr, Some, OnErr, nat_le, nat_lt};
 ghost use Rattle.rules.specs.Runs.{opens, ends};
-ghost use Rattle.sheet.specs.View.{Fit, Rest, number_in};
+ghost use Rattle.sheet.specs.View.{number_in};
 ghost use Rattle.sheet.specs.Told.{Told};
-ghost use Rattle.sheet.specs.Stores.{view, open_answer, end_answer};
+ghost use Rattle.sheet.specs.Stores.{view, Keeps, open_answer, end_answer};
 
 use crate::slips::Slip;
 use crate::store::Store;
@@ -24,12 +24,9 @@ fn leave_a_unit(margins: Span, width: u32) -> bool
 
 impl<'a> Store<'a> {
     pub(crate) fn open(&mut self, margins: Span, clear: Clear) -> Result<Slip, Refusal>
-        requires { Fit (view self.old) }
-        ensures fit { Fit (view self.new) }
-        ensures named { self.new.list.ghost_name ≡ self.old.list.ghost_name }
+        ensures keeps { Keeps self.old self.new }
         ensures same { OnErr result (view self.new ≡ view self.old) }
         ensures memory { (self.new.rows ≡ self.old.rows) × (self.new.list.now ≡ self.old.list.now) }
-        ensures rest { Rest (view self.old) (view self.new) }
         ensures number { IfOk result (λ s. number_in self.new.para ≡ Some s.number) }
         ensures account { Told (opens margins clear) (open_answer result) (view self.old) (view self.new) }
     {
@@ -53,26 +50,21 @@ impl<'a> Store<'a> {
     }
 
     pub(crate) fn end(&mut self, mut slip: Slip) -> Result<(), (Refusal, Slip)>
-        requires { Fit (view self.old) }
-        ensures fit { Fit (view self.new) }
-        ensures named { self.new.list.ghost_name ≡ self.old.list.ghost_name }
+        ensures keeps { Keeps self.old self.new }
         ensures same { IfErr result (λ b. (view self.new ≡ view self.old) × (b.1 ≡ slip)) }
-        ensures rest { Rest (view self.old) (view self.new) }
         ensures rows { self.new.rows ≡ self.old.rows }
         ensures own { number_in self.old.para ≡ Some slip.number → is_ok result ≡ true }
         ensures account { Told (ends slip.number) (end_answer result) (view self.old) (view self.new) }
     {
-        match self.para {
-            None => Err((Refusal::NoParagraph, slip)),
-            Some(para) => {
-                if para.number != slip.number {
-                    return Err((Refusal::WrongSlip, slip));
-                }
-                self.close(para.margins);
-                self.para = None;
-                slip.number = 0;
-                Ok(())
-            }
+        let Some(para) = self.para else {
+            return Err((Refusal::NoParagraph, slip));
+        };
+        if para.number != slip.number {
+            return Err((Refusal::WrongSlip, slip));
         }
+        self.close(para.margins);
+        self.para = None;
+        slip.number = 0;
+        Ok(())
     }
 }

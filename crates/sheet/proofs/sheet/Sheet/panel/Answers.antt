@@ -1,9 +1,6 @@
 use Rattle.sheet.specs.Stores.{view}
-use Rattle.sheet.proofs.Parts.{parts, ever, lawful}
+use Rattle.sheet.proofs.Parts.{ever, lawful}
 use Rattle.sheet.proofs.sheet.Sheet.panel.Goals as goal
-
-pub invariant_of-self : goal.invariant_of-self
-invariant_of-self g c = parts _ _ (view c.args.self.now.store) (view c.panel.new.self) c.args.self.now.reached c.panel.ensures.fit c.panel.ensures.account
 
 pub returns-clause-ever : goal.returns-clause-ever
 returns-clause-ever g c = ever _ _ (view c.args.self.now.store) (view c.panel.new.self) c.args.self.now.reached c.panel.ensures.account
