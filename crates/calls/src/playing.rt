@@ -4,10 +4,9 @@ ghost use Rattle.calls.specs.Lines.{most_places};
 ghost use Rattle.calls.specs.Shown.{row_line};
 
 use crate::asks::Size;
+use crate::hands::Hand;
 use crate::reading::{MOST_PLACES, size_of};
-use crate::replies::{Reply, Row};
-use crate::scales::one_unit;
-use crate::turns::{Hand, finish, turn};
+use crate::replies::{Denied, Reply, Row};
 use lexer::lines::Lines;
 use reaches::reach::Reach;
 use rules::boxes::{BoxRecord, LineBox};
@@ -36,11 +35,11 @@ fn put(heap: Global, out: &mut String, row: Row) -> Result<(), AllocError>
 fn skip(heap: Global, lines: &mut Lines<'_>, out: &mut String) -> Result<Option<Size>, AllocError>
     ensures { IfOk result (λ o. IfSome o (λ s. s.places ≤ most_places)) }
 {
-    while let Some(line) = lines.next() {
+    for line in lines.by_ref() {
         if let Some(size) = size_of(line) {
             return Ok(Some(size));
         }
-        put(heap, out, Row::Answer(Reply::Skipped, None))?;
+        put(heap, out, Row::Answer(Ok(Reply::Skipped), None))?;
     }
     Ok(None)
 }
@@ -55,21 +54,15 @@ fn answer(
     words: &mut [Word],
     runs: &mut [Run],
 ) -> Result<(), AllocError> {
-    let mut hand = Hand {
-        slip: None,
-        opened: 0,
-        scale: one_unit(),
-    };
+    let mut hand = Hand::new();
     let mut printed = Ok(());
-    while let Some(line) = lines.next() {
-        let (row, after) = turn(sheet, hand, line, words, runs);
-        hand = after;
-        printed = put(heap, out, row);
+    for line in lines {
+        printed = put(heap, out, hand.turn(sheet, line, words, runs));
         if printed.is_err() {
             break;
         }
     }
-    finish(sheet, hand);
+    hand.finish(sheet);
     printed?;
     list_boxes(heap, sheet, out)
 }
@@ -126,11 +119,11 @@ fn lay_out(
     let height = u32::from(size.height);
     let line = u32::from(size.line);
     let places = usize::from(size.places);
-    let reply = match fault(width, height, line, cells.len()) {
-        None => Reply::Sheet,
-        Some(refusal) => Reply::Refused(refusal),
+    let answer = match fault(width, height, line, cells.len()) {
+        None => Ok(Reply::Sheet),
+        Some(refusal) => Err(Denied::Call(refusal)),
     };
-    put(heap, out, Row::Answer(reply, None))?;
+    put(heap, out, Row::Answer(answer, None))?;
     let mut sheet = Sheet::new(width, height, line, &mut cells, &mut list[0..places]);
     answer_all(heap, &mut sheet, lines, out)
 }

@@ -14,4 +14,5 @@ pub use boxes::{print, printed_length};
 pub use fault_lines::{fault_length, print_fault};
 pub use faults::layers::Layer;
 pub use faults::tellings::FaultLine;
-pub use outputs::ShortOutput;
+pub use outputs::{Printable, ShortOutput, print_at_front, wanted};
+pub use pages::Page;

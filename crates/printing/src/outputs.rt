@@ -20,7 +20,7 @@ impl ShortOutput {
 }
 
 // What can be printed.
-pub(crate) trait Printable {
+pub trait Printable {
     // All its bytes.
     ghost bytes: { Self → List ℕ };
 
@@ -39,8 +39,8 @@ fn lay_at_front<P: Printable>(item: &P, out: &mut [u8]) -> usize
     page.at
 }
 
-// How many bytes it takes.
-pub(crate) fn wanted<P: Printable>(item: &P) -> usize
+// How many bytes it takes, held at the greatest usize.
+pub fn wanted<P: Printable>(item: &P) -> usize
     ensures { result ≡ counted (P.bytes item.now) }
 {
     lay_at_front(item, &mut [])
@@ -58,7 +58,7 @@ fn room(need: usize, out: &[u8]) -> Result<(), ShortOutput>
 
 // Prints it at the front of the memory, and answers how many bytes it takes; or refuses memory that is too short for it, and
 // writes nothing.
-pub(crate) fn print_at_front<P: Printable>(item: &P, out: &mut [u8]) -> Result<usize, ShortOutput>
+pub fn print_at_front<P: Printable>(item: &P, out: &mut [u8]) -> Result<usize, ShortOutput>
     ensures answer { result ≡ print_answer (P.bytes item.now) out.old }
     ensures kept { out.new ≡ print_kept (P.bytes item.now) out.old }
 {

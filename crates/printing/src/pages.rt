@@ -8,7 +8,7 @@ ghost use Rattle.printing.specs.Pages.{on};
 
 // The memory, which stays the same one, and where the next byte goes.
 #[derive(Drop)]
-pub(crate) struct Page<'a> {
+pub struct Page<'a> {
     pub(crate) out: &'a mut [u8],
     pub(crate) at: usize,
 }

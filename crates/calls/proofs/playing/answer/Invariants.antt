@@ -1,11 +1,6 @@
 -- The slip in hand is that of the open paragraph.
-use Rattle.std.proofs.Common.{length}
-use Rattle.lexer.specs.LinesLeft.{left}
 use Rattle.calls.specs.Hands.{InHand}
 use Rattle.calls.proofs.playing.answer.Given as goal
 
 abbrev pub invariant-loop-line : goal.invariant-loop-line
 invariant-loop-line l = InHand l.hand.slip l.sheet
-
-abbrev pub decreases-loop-line : goal.decreases-loop-line
-decreases-loop-line l = length (left l.lines)
