@@ -7,7 +7,7 @@ use Rattle.rules.specs.Runs.{ends, ended, refused, end_refused, end_done}
 use Rattle.sheet.specs.View.{View}
 use Rattle.sheet.specs.Told.{Told}
 use Rattle.sheet.specs.Steps.{Closed}
-use Rattle.sheet.proofs.Moves.{move, stay}
+use Rattle.sheet.proofs.Moves.{move, stay, idle}
 use Rattle.sheet.proofs.Panels.{para_of}
 use Rattle.sheet.proofs.Lines.{held_shut}
 
@@ -24,32 +24,11 @@ end_other v n p t ne z past k =
 
 -- the fields with no paragraph open
 abbrev pub ended_view : View → View
-ended_view v = record {
-  rows = v.rows;
-  recs = v.recs;
-  line = v.line;
-  used = v.used;
-  top = v.top;
-  bottoms = v.bottoms;
-  cursor = v.cursor;
-  count = v.count;
-  para = None;
-  current = v.current;
-}
+ended_view v = record v { para = None }
 
 pub end_own : (v w : View) (n : ℕ) (p : Paragraph) → v.used + reserved v.current ≤ length v.recs → Closed v p.margins w → v.para ≡ Some p → p.number ≡ n → Told (ends n) ended v (ended_view w)
 end_own v w n p few c t i z past k =
     let e : k.account.para ≡ Some p = para_of k.held t in
     let q : eqb n p.number ≡ true = eq-eqb n p.number (sym i) in
     let h = held_shut v w p k.held few c in
-    move k (end_done p e (simp (e, q))) (record {
-      sized = h.sized;
-      tells = h.tells;
-      top_is = h.top_is;
-      bottoms_are = h.bottoms_are;
-      boxed = h.boxed;
-      cursor_is = h.cursor_is;
-      count_is = h.count_is;
-      para_is = refl;
-      current_is = h.current_is;
-    })
+    move k (end_done p e (simp (e, q))) (idle h h.cursor_is h.count_is refl h.current_is)

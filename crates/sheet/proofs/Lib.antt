@@ -7,4 +7,4 @@ pub mod Ends
 pub mod Flows
 pub mod Stretches
 pub mod Fresh
-pub mod Parts
+pub mod Sheets

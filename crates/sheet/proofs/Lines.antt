@@ -17,7 +17,7 @@ use Rattle.rules.proofs.Single.{same_some}
 use Rattle.sheet.specs.View.{View, Boxed, Held, start_of}
 use Rattle.sheet.specs.Told.{Worded, WordTold}
 use Rattle.sheet.specs.Steps.{Joined, box_at, line_at, shut_by, shut_at, Closed}
-use Rattle.sheet.proofs.Moves.{full_is, boxed_more}
+use Rattle.sheet.proofs.Moves.{full_is, boxed_more, idle}
 use Rattle.sheet.proofs.Panels.{sizes_are}
 
 -- The open line
@@ -32,31 +32,10 @@ apart {z} {A} {v} p sp a h none l j =
 
 -- the fields with another open line
 abbrev pub with_current : View → Line → View
-with_current v l = record {
-  rows = v.rows;
-  recs = v.recs;
-  line = v.line;
-  used = v.used;
-  top = v.top;
-  bottoms = v.bottoms;
-  cursor = v.cursor;
-  count = v.count;
-  para = v.para;
-  current = Some l;
-}
+with_current v l = record v { current = Some l }
 
 pub held_word : {z : Size} {A : Account} {v : View} (l : Line) → Held z A v → Held z (with_word A l) (with_current v l)
-held_word l h = record {
-  sized = h.sized;
-  tells = h.tells;
-  top_is = h.top_is;
-  bottoms_are = h.bottoms_are;
-  boxed = h.boxed;
-  cursor_is = h.cursor_is;
-  count_is = h.count_is;
-  para_is = h.para_is;
-  current_is = refl;
-}
+held_word l h = idle h h.cursor_is h.count_is h.para_is refl
 
 pub word_too_wide : (v : View) (p : Paragraph) (sp a : ℕ) → room p.margins < a → WordTold p sp a (Err WideWord) v v
 word_too_wide v p sp a lt z A h = (word_wide lt, h)
@@ -71,15 +50,7 @@ joins v p sp a k le (l, is, e, fits) z A h =
 
 -- the account with its open line closed
 abbrev pub shut : Size → Account → Paragraph → Option Line → Account
-shut z A p o = record {
-  placed = A.placed;
-  lines = A.lines;
-  boxes = shut_boxes z A p o;
-  cursor = below z A.cursor o;
-  count = A.count;
-  para = A.para;
-  current = None;
-}
+shut z A p o = record A { boxes = shut_boxes z A p o; cursor = below z A.cursor o; current = None }
 
 shut_held : {z : Size} {A : Account} {v : View} (p : Paragraph) (x : ℕ) (o : Option Line) → v.current ≡ o → v.used + reserved o ≤ length v.recs
     → ((l : Line) → o ≡ Some l → x ≡ (band p.margins A.placed l.top z.line).from) → Held z A v → Held z (shut z A p o) (shut_at x o v)
@@ -96,17 +67,7 @@ shut_held {z} {A} {v} p x (Some l) e few edge h =
       para_is = h.para_is;
       current_is = refl;
     }
-shut_held p x None e few edge h = record {
-  sized = h.sized;
-  tells = h.tells;
-  top_is = h.top_is;
-  bottoms_are = h.bottoms_are;
-  boxed = h.boxed;
-  cursor_is = h.cursor_is;
-  count_is = h.count_is;
-  para_is = h.para_is;
-  current_is = e;
-}
+shut_held p x None e few edge h = idle h h.cursor_is h.count_is h.para_is e
 
 pub held_shut : {z : Size} {A : Account} (v w : View) (p : Paragraph) → Held z A v → v.used + reserved v.current ≤ length v.recs → Closed v p.margins w → Held z (shut z A p A.current) w
 held_shut {z} {A} v w p h few c =
@@ -155,18 +116,7 @@ word_nowhere v p sp a start le none t at f z A h = (word_none le (apart p sp a h
 
 -- the fields after a line begins at row t
 abbrev pub with_top : View → ℕ → Line → View
-with_top v t l = record {
-  rows = v.rows;
-  recs = v.recs;
-  line = v.line;
-  used = v.used;
-  top = t;
-  bottoms = v.bottoms;
-  cursor = v.cursor;
-  count = v.count;
-  para = v.para;
-  current = Some l;
-}
+with_top v t l = record v { top = t; current = Some l }
 
 abbrev pub begun : ℕ → ℕ → Line
 begun t a = record { top = t; used = a; words = 1 }
@@ -176,17 +126,7 @@ begins v w p sp a start t top le few none nf at f c is z A h =
     let x = held_shut v w p h few c in (
       with_line z p A a t,
       word_opens t le (apart p sp a h none) (full_is h nf) (sought h p start a (Some t) at f),
-      record {
-        sized = x.sized;
-        tells = x.tells;
-        top_is = (let e = x.top_is in omega arith);
-        bottoms_are = x.bottoms_are;
-        boxed = x.boxed;
-        cursor_is = x.cursor_is;
-        count_is = x.count_is;
-        para_is = x.para_is;
-        current_is = refl;
-      },
+      record { sized = x.sized; tells = x.tells; top_is = (let e = x.top_is in omega arith); bottoms_are = x.bottoms_are; boxed = x.boxed; cursor_is = x.cursor_is; count_is = x.count_is; para_is = x.para_is; current_is = refl },
     )
 
 -- what closing does, by the band that it finds

@@ -7,6 +7,8 @@ use Rattle.std.specs.Option.{ok_or}
 use Rattle.std.specs.Result.{result_ok, IsErrAnd}
 use Rattle.std.proofs.lemmas.Result.{err_from_is_err_and}
 use Rattle.rules.specs.declared.boxes.BoxRecord.{BoxRecord}
+use Rattle.places.specs.declared.parts.Line.{Line}
+use Rattle.rules.specs.declared.paragraphs.Paragraph.{Paragraph}
 use Rattle.rules.specs.declared.refusals.Refusal.{Refusal}
 use Rattle.rules.specs.Account.{Size, Account, reserved, full}
 use Rattle.rules.specs.Runs.{Call, Answer, Event, event, Step, next}
@@ -50,6 +52,20 @@ pub boxed_more : (boxes recs : List BoxRecord) (used : ℕ) (b : BoxRecord) → 
 boxed_more boxes recs used b lt h = record {
   used_is = omega (arith, h.used_is);
   list_is = take_more_set recs used b lt ∙ ap (λ l. l ++ (b ∷ [])) h.list_is ∙ sym (reverse-cons b boxes);
+}
+
+-- where no panel, line or box is added
+pub idle : {z : Size} {A : Account} {v : View} {c c' n n' : ℕ} {p p' : Option Paragraph} {l l' : Option Line} → Held z A v → c' ≡ c → n' ≡ n → p' ≡ p → l' ≡ l → Held z (record A { cursor = c; count = n; para = p; current = l }) (record v { cursor = c'; count = n'; para = p'; current = l' })
+idle h c n p l = record {
+  sized = h.sized;
+  tells = h.tells;
+  top_is = h.top_is;
+  bottoms_are = h.bottoms_are;
+  boxed = h.boxed;
+  cursor_is = c;
+  count_is = n;
+  para_is = p;
+  current_is = l;
 }
 
 -- The records past those in use

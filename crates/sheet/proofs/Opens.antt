@@ -10,7 +10,7 @@ use Rattle.sheet.specs.Clearance.{lowest}
 use Rattle.sheet.specs.View.{View, Held, Kept}
 use Rattle.sheet.specs.Told.{Told}
 use Rattle.sheet.proofs.Cleared.{lowest_is}
-use Rattle.sheet.proofs.Moves.{move, stay, open_is}
+use Rattle.sheet.proofs.Moves.{move, stay, open_is, idle}
 
 pub open_taken : (v : View) (m : Span) (c : Clear) → is_some v.para ≡ true → Told (opens m c) (refused AlreadyOpen) v v
 open_taken v m c t z past k =
@@ -36,18 +36,7 @@ open_narrow v m c t n bad z past k =
 
 -- the fields after opening at row t
 abbrev pub opened_view : View → Span → ℕ → View
-opened_view v m t = record {
-  rows = v.rows;
-  recs = v.recs;
-  line = v.line;
-  used = v.used;
-  top = v.top;
-  bottoms = v.bottoms;
-  cursor = t;
-  count = v.count + 1;
-  para = Some (record { number = v.count + 1; margins = m; top = t });
-  current = v.current;
-}
+opened_view v m t = record v { cursor = t; count = v.count + 1; para = Some (record { number = v.count + 1; margins = m; top = t }) }
 
 pub opens_at : (v : View) (m : Span) (c : Clear) (t : ℕ) → is_some v.para ≡ false → v.count < most_paragraphs → (ltb m.from m.to && leb m.to v.rows.width) ≡ true → t ≡ max v.cursor (lowest c v.bottoms) → Told (opens m c) (opened (v.count + 1)) v (opened_view v m t)
 opens_at v m c t shut n good at z past k =
@@ -59,14 +48,4 @@ opens_at v m c t shut n good at z past k =
     let top : t ≡ opening_top k.account c = at ∙ ap₂ max h.cursor_is low in
     let e : v.count + 1 ≡ k.account.count + 1 = ap (λ n. n + 1) h.count_is in
     subst (λ i. Kept z (event (opens m c) (opened i) ∷ past) (opened_view v m t)) (sym e)
-    (move k (open_done (simp (p, q, r))) (record {
-      sized = h.sized;
-      tells = h.tells;
-      top_is = h.top_is;
-      bottoms_are = h.bottoms_are;
-      boxed = h.boxed;
-      cursor_is = top;
-      count_is = e;
-      para_is = (λ i. Some (record { number = e i; margins = m; top = top i }));
-      current_is = h.current_is;
-    }))
+    (move k (open_done (simp (p, q, r))) (idle h top e (λ i. Some (record { number = e i; margins = m; top = top i })) h.current_is))

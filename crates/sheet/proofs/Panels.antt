@@ -84,18 +84,7 @@ panel_nowhere v p o start g at f z past k = stay k (panel_none p (para_of k.held
 
 -- the fields after a panel stands with its top at row y
 abbrev pub panel_view : View → Rows → BoxRecord → ℕ → Bottoms → View
-panel_view v rows b y lows = record {
-  rows = rows;
-  recs = set v.recs v.used b;
-  line = v.line;
-  used = v.used + 1;
-  top = y;
-  bottoms = lows;
-  cursor = v.cursor;
-  count = v.count;
-  para = v.para;
-  current = v.current;
-}
+panel_view v rows b y lows = record v { rows = rows; recs = set v.recs v.used b; used = v.used + 1; top = y; bottoms = lows }
 
 -- a panel that stands is no higher than any before it
 top_after : (z : Size) (A : Account) (p : Paragraph) {o : Wanted} {x y : ℕ} → Permitted (rows_of z) (scene A p) o x y → y ≡ max (max y (panel_tops A.placed)) (greatest A.lines)

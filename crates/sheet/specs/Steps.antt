@@ -39,18 +39,7 @@ line_at x l = B.Line (box_at x l)
 
 -- the line l closes, and its box is b
 abbrev pub shut_by : LineBox → Line → View → View
-shut_by b l v = record {
-  rows = v.rows;
-  recs = slice_set v.recs v.used (B.Line b);
-  line = v.line;
-  used = v.used + 1;
-  top = v.top;
-  bottoms = v.bottoms;
-  cursor = l.top + v.line;
-  count = v.count;
-  para = v.para;
-  current = None;
-}
+shut_by b l v = record v { recs = slice_set v.recs v.used (B.Line b); used = v.used + 1; cursor = l.top + v.line; current = None }
 
 abbrev pub shut_at : ℕ → Option Line → View → View
 shut_at x (Some l) v = shut_by (box_at x l) l v

@@ -6,11 +6,9 @@
 --     Rest v w      the records past those in use are in w what they were in v
 --     start_of ..   the first row open to a new line
 --     number_in o   the number of the open paragraph o, if there is one
-use Rattle.std.specs.Prelude.{◌≡◌, ℕ, ◌+◌, ◌*◌, ◌<◌, ◌≤◌, max, List, reverse, length, take, drop, Some, None, Option, slice_index_or}
+use Rattle.std.specs.Prelude.{◌≡◌, ℕ, ◌+◌, ◌≤◌, max, List, reverse, length, take, drop, Some, None, Option}
 use Rattle.places.specs.declared.parts.Line.{Line}
 use Rattle.places.specs.Tried.{panel_tops, greatest}
-use Rattle.reaches.specs.declared.reach.Reach.{Reach}
-use Rattle.reaches.specs.Reaches.{no_reach, farther}
 use Rattle.rows.specs.declared.Rows.{Rows}
 use Rattle.rows.specs.Told.{Tells}
 use Rattle.rules.specs.declared.boxes.BoxRecord.{BoxRecord}

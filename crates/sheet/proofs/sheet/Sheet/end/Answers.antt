@@ -1,9 +1,11 @@
-use Rattle.sheet.specs.Stores.{view}
-use Rattle.sheet.proofs.Parts.{ever, lawful}
+use Rattle.sheet.proofs.Sheets.{reached, ever, tells}
 use Rattle.sheet.proofs.sheet.Sheet.end.Goals as goal
 
+pub invariant_of-self : goal.invariant_of-self
+invariant_of-self c = record { reached = reached c.args.self.now c.end.ensures.account }
+
 pub returns-clause-ever : goal.returns-clause-ever
-returns-clause-ever c = ever _ _ (view c.args.self.now.store) (view c.end.new.self) c.args.self.now.reached c.end.ensures.account
+returns-clause-ever c = ever c.args.self.now c.end.ensures.account
 
 pub returns-clause-account : goal.returns-clause-account
-returns-clause-account c = λ z past k. (c.end.ensures.account z past k, lawful z _)
+returns-clause-account c = tells c.args.self.now c.end.ensures.account

@@ -1,9 +1,11 @@
-use Rattle.sheet.specs.Stores.{view}
-use Rattle.sheet.proofs.Parts.{ever, lawful}
+use Rattle.sheet.proofs.Sheets.{reached, ever, tells}
 use Rattle.sheet.proofs.sheet.Sheet.panel.Goals as goal
 
+pub invariant_of-self : goal.invariant_of-self
+invariant_of-self g c = record { reached = reached c.args.self.now c.panel.ensures.account }
+
 pub returns-clause-ever : goal.returns-clause-ever
-returns-clause-ever g c = ever _ _ (view c.args.self.now.store) (view c.panel.new.self) c.args.self.now.reached c.panel.ensures.account
+returns-clause-ever g c = ever c.args.self.now c.panel.ensures.account
 
 pub returns-clause-account : goal.returns-clause-account
-returns-clause-account g c = λ z past k. (c.panel.ensures.account z past k, lawful z _)
+returns-clause-account g c = tells c.args.self.now c.panel.ensures.account
