@@ -1,11 +1,9 @@
 // What is printed of a file, with memory for the highest sheet, the longest text and 1,024 boxes.
 ghost use Rattle.std.specs.Prelude.{◌≡◌, IfOk};
-ghost use Rattle.printing.specs.Boxes.{printed};
-ghost use Rattle.fault_lines.specs.Tellings.{fault_line};
 ghost use Rattle.sheet_report.specs.Reports.{Reports};
 
 use fault_lines::tellings::FaultLine;
-use printing::{fault_length, print, print_fault, printed_length};
+use printing::{Printable, print_at_front, wanted};
 use reaches::reach::Reach;
 use rules::boxes::{BoxRecord, LineBox};
 use sheet_file::reading::read;
@@ -25,26 +23,13 @@ const NO_BOX: BoxRecord = BoxRecord::Line(LineBox {
     words: 0,
 });
 
-// The boxes of a list, and what they come to.
-fn show(heap: Global, boxes: &[BoxRecord]) -> Result<Vec<u8>, AllocError>
-    ensures { IfOk result (λ v. v.items ≡ printed boxes.now) }
+// What is printed of this, in memory of just its length.
+fn shown<P: Printable>(heap: Global, item: &P) -> Result<Vec<u8>, AllocError>
+    ensures { IfOk result (λ v. v.items ≡ P.bytes item.now) }
 {
-    let mut out = vec![in heap; 0; printed_length(boxes)]?;
-    match print(boxes, out.as_mut_slice()) {
-        Ok(_) => Ok(out),
-        Err(_) => unreachable!(),
-    }
-}
-
-// A fault alone.
-fn show_fault(heap: Global, fault: FaultLine) -> Result<Vec<u8>, AllocError>
-    ensures { IfOk result (λ v. v.items ≡ fault_line fault) }
-{
-    let mut out = vec![in heap; 0; fault_length(fault)]?;
-    match print_fault(fault, out.as_mut_slice()) {
-        Ok(_) => Ok(out),
-        Err(_) => unreachable!(),
-    }
+    let mut out = vec![in heap; 0; wanted(item)]?;
+    print_at_front(item, out.as_mut_slice()).unwrap();
+    Ok(out)
 }
 
 // What is printed of a file: each box of its sheet and the total, or the first fault alone. The one other answer is that
@@ -58,7 +43,7 @@ pub fn report(heap: Global, file: &[u8]) -> Result<Vec<u8>, AllocError>
     let mut runs = [Run::default(); MOST_RUNS];
     let reading = read(file, &mut cells, &mut list, &mut words, &mut runs);
     match reading.fault {
-        Some(fault) => show_fault(heap, FaultLine::from(fault)),
-        None => show(heap, reading.list.boxes),
+        Some(fault) => shown(heap, &FaultLine::from(fault)),
+        None => shown(heap, &reading.list.boxes),
     }
 }
