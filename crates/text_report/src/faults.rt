@@ -9,7 +9,7 @@ use fault_lines::locations;
 use fault_lines::tellings::Reason;
 use lexer::faults::Fault;
 use metrics::Unfit;
-use text::TextFault;
+use text::{TextFault, Unmeasured};
 
 // Why a line is refused; each layer's own fault is kept as it is.
 #[derive(Clone, Copy)]
@@ -35,6 +35,14 @@ impl From<TextFault> for FileFault {
 
     fn from(fault: TextFault) -> FileFault {
         FileFault::Measuring(fault)
+    }
+}
+
+impl From<Unmeasured<'_>> for FileFault {
+    ghost from_gives = { λ x y. y ≡ Measuring x.fault };
+
+    fn from(back: Unmeasured<'_>) -> FileFault {
+        FileFault::Measuring(back.fault)
     }
 }
 
