@@ -1,32 +1,19 @@
-// What is kept from line to line, beside the sheet.
-ghost use Rattle.std.specs.Prelude.{◌≡◌, None};
-ghost use Rattle.calls.specs.Scales.{cell_of_one};
+// What is kept from line to line.
+ghost use Rattle.calls.specs.Hands.{InHand, in_hand_prop};
 
-use metrics::cells::Cell;
 use scales::Scale;
+use sheet::sheet::Sheet;
 use sheet::slips::Slip;
 
-// The slip of the open paragraph, if the script opened one and has not ended it, how many it opened, and the metrics that
-// texts are measured by.
-pub struct Hand {
-    pub slip: Option<Slip>,
-    pub opened: u32,
-    pub scale: Scale,
-}
+// How a hand begins.
+pub mod make;
 
-impl Hand {
-    // What a script begins with: no slip, and one unit for every byte.
-    pub(crate) fn new() -> Hand
-        ensures slip { result.slip ≡ None }
-        ensures scale { cell_of_one result.scale }
-    {
-        let Ok(cell) = Cell::new(1) else {
-            unreachable()
-        };
-        Hand {
-            slip: None,
-            opened: 0,
-            scale: Scale::Cell(cell),
-        }
-    }
+// The sheet, the slip of its open paragraph, if the script opened one and has not ended it, how many it opened, and the
+// metrics that texts are measured by.
+pub struct Hand<'a> {
+    pub(crate) sheet: Sheet<'a>,
+    pub(crate) slip: Option<Slip>,
+    pub(crate) opened: u32,
+    pub(crate) scale: Scale,
+    ghost own: { InHand slip sheet } by { in_hand_prop slip sheet },
 }

@@ -7,7 +7,7 @@ use std::io::Read;
 
 // What a line asks for.
 mod asks;
-// What is kept from line to line, beside the sheet.
+// What is kept from line to line.
 mod hands;
 // All lines of a script, one after another.
 mod playing;

@@ -44,27 +44,19 @@ fn skip(heap: Global, lines: &mut Lines<'_>, out: &mut String) -> Result<Option<
     Ok(None)
 }
 
-// Answers the lines that are left. A slip in hand has to be spent, so that only the end of the lines, or of the memory for
-// what is printed, ends the loop.
+// Answers the lines that are left.
 fn answer(
     heap: Global,
-    sheet: &mut Sheet<'_>,
-    lines: &mut Lines<'_>,
+    hand: &mut Hand<'_>,
+    lines: Lines<'_>,
     out: &mut String,
     words: &mut [Word],
     runs: &mut [Run],
 ) -> Result<(), AllocError> {
-    let mut hand = Hand::new();
-    let mut printed = Ok(());
     for line in lines {
-        printed = put(heap, out, hand.turn(sheet, line, words, runs));
-        if printed.is_err() {
-            break;
-        }
+        put(heap, out, hand.turn(line, words, runs))?;
     }
-    hand.finish(sheet);
-    printed?;
-    list_boxes(heap, sheet, out)
+    Ok(())
 }
 
 // The boxes of the sheet, in the order of its list, and what they come to.
@@ -78,8 +70,8 @@ fn list_boxes(heap: Global, sheet: &Sheet<'_>, out: &mut String) -> Result<(), A
 // Answers the lines that are left, with memory for the longest text.
 fn answer_all(
     heap: Global,
-    sheet: &mut Sheet<'_>,
-    lines: &mut Lines<'_>,
+    hand: &mut Hand<'_>,
+    lines: Lines<'_>,
     out: &mut String,
 ) -> Result<(), AllocError> {
     let mut words = [Word {
@@ -91,16 +83,12 @@ fn answer_all(
         advance: 0,
         count: 0,
     }; MOST_RUNS];
-    answer(heap, sheet, lines, out, &mut words, &mut runs)
+    answer(heap, hand, lines, out, &mut words, &mut runs)
 }
 
-// Makes a sheet of this size, with cells for the highest one, answers the `sheet` line and then those that are left.
-fn lay_out(
-    heap: Global,
-    size: Size,
-    lines: &mut Lines<'_>,
-    out: &mut String,
-) -> Result<(), AllocError>
+// Makes a sheet of this size, with cells for the highest one, answers the `sheet` line and then those that are left, and
+// lists the boxes. A slip in hand has to be spent, also where there is no memory left for what is printed.
+fn lay_out(heap: Global, size: Size, lines: Lines<'_>, out: &mut String) -> Result<(), AllocError>
     requires { size.places ≤ most_places }
 {
     let mut cells = [Reach {
@@ -124,8 +112,12 @@ fn lay_out(
         Some(refusal) => Err(Denied::Call(refusal)),
     };
     put(heap, out, Row::Answer(answer, None))?;
-    let mut sheet = Sheet::new(width, height, line, &mut cells, &mut list[0..places]);
-    answer_all(heap, &mut sheet, lines, out)
+    let sheet = Sheet::new(width, height, line, &mut cells, &mut list[0..places]);
+    let mut hand = Hand::new(sheet);
+    let printed = answer_all(heap, &mut hand, lines, out);
+    let sheet = hand.finish();
+    printed?;
+    list_boxes(heap, &sheet, out)
 }
 
 // What is printed of a script: a line for each of its lines. The one other answer is that there is no memory left.
@@ -133,7 +125,7 @@ pub(crate) fn play(heap: Global, script: &[u8]) -> Result<String, AllocError> {
     let mut lines = Lines::new(script);
     let mut out = String::new(heap);
     if let Some(size) = skip(heap, &mut lines, &mut out)? {
-        lay_out(heap, size, &mut lines, &mut out)?;
+        lay_out(heap, size, lines, &mut out)?;
     }
     Ok(out)
 }

@@ -8,7 +8,6 @@ ghost use Rattle.text.specs.Fault.{text_fault};
 ghost use Rattle.text.specs.Measure.{space_byte};
 ghost use Rattle.rules.specs.Runs.{ends, ended};
 ghost use Rattle.sheet.specs.Sheets.{open_number, Tells};
-ghost use Rattle.calls.specs.Hands.{InHand};
 ghost use Rattle.calls.specs.Scales.{advances_of};
 ghost use Rattle.calls.specs.Turns.{Opens, Places, Flows, Ends};
 
@@ -89,9 +88,10 @@ fn spend(sheet: &mut Sheet<'_>, own: Slip)
     }
 }
 
-impl Hand {
+impl<'a> Hand<'a> {
     // A metrics that cannot be made leaves the one before it.
     fn set_metric(&mut self, asked: MetricLine) -> Answer
+        ensures sheet { self.new.sheet ≡ self.old.sheet }
         ensures slip { self.new.slip ≡ self.old.slip }
         ensures scale { OnErr result (self.new.scale ≡ self.old.scale) }
     {
@@ -100,12 +100,10 @@ impl Hand {
     }
 
     // A sheet with an open paragraph opens no other, so that there is never a second slip.
-    fn open(&mut self, sheet: &mut Sheet<'_>, opening: Opening) -> Answer
-        requires { InHand self.old.slip sheet.old }
-        ensures hand { InHand self.new.slip sheet.new }
-        ensures told { Opens opening.margins opening.clear result self.new.slip sheet.old sheet.new }
+    fn open(&mut self, opening: Opening) -> Answer
+        ensures { Opens opening.margins opening.clear result self.new.slip self.old.sheet self.new.sheet }
     {
-        let slip = sheet.open(opening.margins, opening.clear)?;
+        let slip = self.sheet.open(opening.margins, opening.clear)?;
         match self.slip.replace(slip) {
             None => {}
             Some(_) => unreachable(),
@@ -115,55 +113,45 @@ impl Hand {
     }
 
     // Where no slip is in hand, no call is made.
-    fn end(&mut self, sheet: &mut Sheet<'_>) -> Answer
-        requires { InHand self.old.slip sheet.old }
+    fn end(&mut self) -> Answer
         ensures hand { self.new.slip ≡ None }
-        ensures told { Ends self.old.slip result sheet.old sheet.new }
+        ensures told { Ends self.old.slip result self.old.sheet self.new.sheet }
     {
         let own = self.slip.take().ok_or(Refusal::NoParagraph)?;
-        spend(sheet, own);
+        spend(&mut self.sheet, own);
         Ok(Reply::Ended)
     }
 
-    // Ends the paragraph that is still open at the end of the script: a slip has to be spent.
-    pub(crate) fn finish(self, sheet: &mut Sheet<'_>)
-        requires { InHand self.slip sheet.old }
-    {
+    // The sheet, after the paragraph that is still open at the end of the script is ended: a slip has to be spent.
+    pub(crate) fn finish(self) -> Sheet<'a> {
         let Hand {
+            mut sheet,
             slip,
             opened: _,
             scale: _,
         } = self;
         if let Some(left) = slip {
-            spend(sheet, left);
+            spend(&mut sheet, left);
         }
+        sheet
     }
 
     // What a line is answered. A line of no form, or a second `sheet`, calls nothing. The answers of the calls on the sheet
     // show the line that is open after them.
-    pub(crate) fn turn(
-        &mut self,
-        sheet: &mut Sheet<'_>,
-        line: Line<'_>,
-        words: &mut [Word],
-        runs: &mut [Run],
-    ) -> Row
-        requires { InHand self.old.slip sheet.old }
-        ensures { InHand self.new.slip sheet.new }
-    {
+    pub(crate) fn turn(&mut self, line: Line<'_>, words: &mut [Word], runs: &mut [Run]) -> Row {
         let Some(ask) = read(line) else {
             return Row::Answer(Ok(Reply::Skipped), None);
         };
         let answer = match ask {
             Ask::Sheet(_) => return Row::Answer(Ok(Reply::Skipped), None),
             Ask::Metric(asked) => return Row::Answer(self.set_metric(asked), None),
-            Ask::Totals => return Row::Answer(Ok(Reply::Totals(sheet.totals())), None),
-            Ask::Open(opening) => self.open(sheet, opening),
-            Ask::Plain(panel) => plain(sheet, panel),
-            Ask::Stairs(panel) => stairs(sheet, panel),
-            Ask::Text(passage) => flow(sheet, &self.scale, passage, words, runs),
-            Ask::End => self.end(sheet),
+            Ask::Totals => return Row::Answer(Ok(Reply::Totals(self.sheet.totals())), None),
+            Ask::Open(opening) => self.open(opening),
+            Ask::Plain(panel) => plain(&mut self.sheet, panel),
+            Ask::Stairs(panel) => stairs(&mut self.sheet, panel),
+            Ask::Text(passage) => flow(&mut self.sheet, &self.scale, passage, words, runs),
+            Ask::End => self.end(),
         };
-        Row::Answer(answer, sheet.open_line())
+        Row::Answer(answer, self.sheet.open_line())
     }
 }
