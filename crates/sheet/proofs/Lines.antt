@@ -75,24 +75,6 @@ held_shut {z} {A} v w p h few c =
     let x = shut_held {z = z} {A = A} {v = v} p c.x v.current refl few edge h in
     subst (λ o. Held z (shut z A p o) w) h.current_is (subst (λ u. Held z (shut z A p v.current) u) (sym c.after) x)
 
--- what closing keeps
-pub record Left (v w : View) : Type 0 where
-  pub rows : w.rows ≡ v.rows
-  pub long : length w.recs ≡ length v.recs
-  pub line : w.line ≡ v.line
-  pub used : w.used ≡ v.used + reserved v.current
-  pub para : w.para ≡ v.para
-  pub idle : w.current ≡ None
-
-left_at : (v : View) (x : ℕ) (o : Option Line) → v.current ≡ o → record { rows : (shut_at x o v).rows ≡ v.rows; long : length (shut_at x o v).recs ≡ length v.recs; line : (shut_at x o v).line ≡ v.line; used : (shut_at x o v).used ≡ v.used + reserved o; para : (shut_at x o v).para ≡ v.para; idle : (shut_at x o v).current ≡ None }
-left_at v x (Some l) e = record { rows = refl; long = length-set _ _ _; line = refl; used = refl; para = refl; idle = refl }
-left_at v x None e = record { rows = refl; long = refl; line = refl; used = omega arith; para = refl; idle = e }
-
-pub left : (v w : View) (m : Span) → Closed v m w → Left v w
-left v w m c =
-    let x = left_at v c.x v.current refl in
-    subst (λ u. Left v u) (sym c.after) (record { rows = x.rows; long = x.long; line = x.line; used = x.used; para = x.para; idle = x.idle })
-
 -- A line begins
 
 pub word_full_up : (v : View) (p : Paragraph) (sp a : ℕ) → a ≤ room p.margins → Joined v p.margins sp a None → leb (length v.recs) (v.used + reserved v.current) ≡ true → WordTold p sp a (Err ListFull) v v
