@@ -19,11 +19,6 @@ use Rattle.items.specs.Faults.{setback}
 abbrev pub advances_of : (ℕ → ℕ) → List ℕ → List ℕ
 advances_of adv text = map (λ w. w.advance) (measured adv text)
 
--- what refuses the text, as an answer
-abbrev pub refusing : Option TextFault → Result (Unit {0}) TextFault
-refusing (Some f) = Err f
-refusing None = Ok tt
-
 abbrev pub unless : Option TextFault → Call → Result Call FileFault
 unless (Some f) c = Err (Measuring f)
 unless None c = Ok c

@@ -1,9 +1,13 @@
 -- Why a sheet file is refused. Assumes nothing.
 --     setback e n     the call on the sheet is refused with e, after n words
---     at_line n f     the fault f on line n
+--     Located         a fault on a line of the file
+--     layer_of f      the part that refuses
 --     cause_of f      the number of the cause
 --     place_of f      the offset in the line of the first bad field or byte, the words set before a refused one, or 0
 use Rattle.std.specs.Prelude.{ℕ, ◌+◌, min}
+use Rattle.fault_lines.specs.declared.layers.Layer.{Layer}
+use Rattle.fault_lines.specs.declared.layers.Layer.TheVariants.{File, Text, Sheet}
+use Rattle.fault_lines.specs.declared.locations.Located as locations
 use Rattle.lexer.specs.Causes.{cause_number}
 use Rattle.rules.specs.declared.refusals.Refusal.{Refusal}
 use Rattle.rules.specs.Refusals.{number_of}
@@ -13,13 +17,19 @@ use Rattle.text.specs.Fault as text
 use Rattle.items.specs.declared.faults.SheetFault.{SheetFault}
 use Rattle.items.specs.declared.faults.FileFault.{FileFault}
 use Rattle.items.specs.declared.faults.FileFault.TheVariants.{Form, Extent, Long, Measuring, Refused}
-use Rattle.items.specs.declared.faults.Located.{Located}
 
 abbrev pub setback : Refusal → ℕ → SheetFault
 setback e n = record { refusal = e; words = n }
 
-abbrev pub at_line : ℕ → FileFault → Located
-at_line n f = record { line = n; fault = f }
+abbrev pub Located : Type 0
+Located = locations.Located FileFault
+
+abbrev pub layer_of : FileFault → Layer
+layer_of (Form f) = File
+layer_of Extent = File
+layer_of Long = File
+layer_of (Measuring f) = Text
+layer_of (Refused f) = Sheet
 
 abbrev pub cause_of : FileFault → ℕ
 cause_of (Form f) = cause_number f.cause

@@ -3,13 +3,16 @@ ghost use Rattle.std.specs.Prelude.{◌≡◌};
 ghost use Rattle.rules.specs.declared.refusals.Refusal.TheVariants.{NoShape};
 ghost use Rattle.text.specs.declared.faults.TextFault.TheVariants.{Metrics};
 ghost use Rattle.items.specs.declared.faults.FileFault.TheVariants.{Form, Measuring, Refused};
-ghost use Rattle.items.specs.Faults.{setback, cause_of, place_of};
+ghost use Rattle.items.specs.Faults.{setback, layer_of, cause_of, place_of};
 
+use fault_lines::layers::Layer;
+use fault_lines::locations;
+use fault_lines::tellings::Reason;
 use lexer::faults::Fault;
 use metrics::Unfit;
 use rules::refusals::Refusal;
 use shapes::NoShape;
-use text::TextFault;
+use text::{TextFault, Unmeasured};
 
 // A refused call on the sheet, and how many words it set before its refusal.
 #[derive(Clone, Copy)]
@@ -34,11 +37,7 @@ pub enum FileFault {
 }
 
 // The first fault of a file: the line, counted from 1, and why it is refused.
-#[derive(Clone, Copy)]
-pub struct Located {
-    pub line: usize,
-    pub fault: FileFault,
-}
+pub type Located = locations::Located<FileFault>;
 
 impl From<Refusal> for SheetFault {
     ghost from_gives = { λ x y. y ≡ setback x 0 };
@@ -72,6 +71,14 @@ impl From<TextFault> for FileFault {
 
     fn from(fault: TextFault) -> FileFault {
         FileFault::Measuring(fault)
+    }
+}
+
+impl From<Unmeasured<'_>> for FileFault {
+    ghost from_gives = { λ x y. y ≡ Measuring x.fault };
+
+    fn from(text: Unmeasured<'_>) -> FileFault {
+        FileFault::Measuring(text.fault)
     }
 }
 
@@ -110,11 +117,22 @@ impl From<NoShape> for FileFault {
 // The offset in its line at which a text begins.
 const TEXT_START: usize = 5;
 
-impl FileFault {
-    // The number by which the cause is reported.
-    pub fn cause(self) -> u8
-        ensures { result ≡ cause_of self }
-    {
+impl Reason for FileFault {
+    ghost layer_of = { layer_of };
+
+    ghost cause_of = { cause_of };
+
+    ghost place_of = { place_of };
+
+    fn layer(&self) -> Layer {
+        match self {
+            FileFault::Form(_) | FileFault::Extent | FileFault::Long => Layer::File,
+            FileFault::Measuring(_) => Layer::Text,
+            FileFault::Refused(_) => Layer::Sheet,
+        }
+    }
+
+    fn cause(&self) -> u8 {
         match self {
             FileFault::Form(fault) => fault.cause.number(),
             FileFault::Extent => 11,
@@ -124,10 +142,8 @@ impl FileFault {
         }
     }
 
-    // Where it lies: the offset in the line of a field or byte, the words set before a refused one, or 0.
-    pub fn place(self) -> usize
-        ensures { result ≡ place_of self }
-    {
+    // The offset in the line of a field or byte, the words set before a refused one, or 0.
+    fn place(&self) -> usize {
         match self {
             FileFault::Form(fault) => fault.place,
             FileFault::Extent | FileFault::Long => 0,

@@ -1,23 +1,15 @@
 // A text that a line asks for.
-ghost use Rattle.std.specs.Prelude.{◌≡◌, length, Option};
-ghost use Rattle.text.specs.Fault.{text_fault};
+ghost use Rattle.std.specs.Prelude.{◌≡◌, length};
 ghost use Rattle.sheet.specs.Stores.{flow_answer};
 ghost use Rattle.items.specs.Asked.{judged, Asked};
-ghost use Rattle.items.specs.Calls.{refusing, text_call};
+ghost use Rattle.items.specs.Calls.{text_call};
 ghost use Rattle.items.specs.Spares.{Keeps};
 
 use crate::faults::{FileFault, SheetFault};
 use metrics::advances::Metrics;
 use sheet::answers::Flowed;
 use sheet::sheet::Sheet;
-use text::{Run, TextFault, Word, fault, measure};
-
-// Whether the text can be measured into these records and cells.
-fn accept(text: &[u8], words: &[Word], runs: &[Run]) -> Result<(), TextFault>
-    ensures { result ≡ refusing (text_fault text.now (length words.now) (length runs.now)) }
-{
-    fault(text, words, runs).map_or(Ok(()), Err)
-}
+use text::{Run, Text, Word};
 
 // Whether all words were set.
 fn complete(flowed: Flowed) -> Result<(), FileFault>
@@ -41,7 +33,6 @@ pub(crate) fn flow<M: Metrics>(
     ensures keeps { Keeps sheet.old sheet.new }
     ensures asked { Asked (text_call (M.advances metrics.now) (length words.old) (length runs.old) text.now) result sheet.old sheet.new }
 {
-    accept(text, words, runs)?;
-    let measured = measure(metrics, text, words, runs);
+    let measured = Text::new(metrics, text, words, runs)?;
     complete(sheet.flow(&measured, 0))
 }

@@ -1,12 +1,12 @@
 -- One line after another, up to the first fault. Assumes nothing.
 use Rattle.std.proofs.Common.{◌≡◌, ℕ, suc, ◌+◌, ◌-◌, ◌<◌, ◌≤◌, List, [], ◌∷◌, drop, Some, Ok, Err, Option, Result, sym, ap, ◌∙◌, subst, arith, drop-drop}
+use Rattle.fault_lines.specs.Locations.{at_line}
 use Rattle.lexer.specs.Lines.{FileLine}
 use Rattle.sheet.specs.declared.sheet.Sheet.{Sheet}
-use Rattle.items.specs.declared.faults.Located.{Located}
 use Rattle.sheet_file.specs.declared.cursors.Cursor.{Cursor}
 use Rattle.sheet_file.specs.Cursors.{ahead, number}
 use Rattle.items.specs.declared.faults.FileFault.{FileFault}
-use Rattle.items.specs.Faults.{at_line}
+use Rattle.items.specs.Faults.{Located}
 use Rattle.items.specs.Onward.{onward}
 use Rattle.sheet_file.specs.Done.{Goes}
 use Rattle.sheet_file.specs.Plans.{first_line}

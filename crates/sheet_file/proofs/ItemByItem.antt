@@ -1,18 +1,18 @@
 -- One item after another. Assumes nothing.
 use Rattle.std.proofs.Common.{◌≡◌, ℕ, suc, ◌+◌, List, [], ◌∷◌, Some, None, Ok, Err, Result, sym, refl, subst, subst₂, arith}
+use Rattle.fault_lines.specs.Locations.{at_line, on_line}
 use Rattle.lexer.specs.Lines.{FileLine}
 use Rattle.rules.specs.Runs.{Call, event}
 use Rattle.sheet.specs.declared.sheet.Sheet.{Sheet}
 use Rattle.sheet.specs.View.{View, Kept}
 use Rattle.items.specs.declared.faults.FileFault.{FileFault}
 use Rattle.items.specs.declared.faults.FileFault.TheVariants.{Extent}
-use Rattle.items.specs.Faults.{at_line}
 use Rattle.items.specs.Asked.{Asked}
 use Rattle.sheet_file.specs.declared.cursors.Cursor.{Cursor}
 use Rattle.sheet_file.specs.Cursors.{ahead, number}
 use Rattle.sheet_file.specs.Plans.{Setting, Items, no_items, with_item, item_of, items_plan}
 use Rattle.sheet_file.specs.Done.{all_done, one_done, one_refused, Done, Goes}
-use Rattle.sheet_file.specs.Turns.{Leading, Turned, on_line}
+use Rattle.sheet_file.specs.Turns.{Leading, Turned}
 
 call_goes : (x : Result Call FileFault) (n : ℕ) (rest : ℕ → Items) (u : Unit {0}) (s t : Sheet) → Asked x (Ok u) s t → Goes (λ es ms. (k : ℕ) → Leading Done (with_item n x (rest k)) (rest k) es ms) s t
 call_goes (Ok c) n rest u s t h z past p = (event c h.0 ∷ past, (h.1 z past p).0, λ k fs o d. one_done (event c h.0) refl (sym h.2) d)

@@ -2,6 +2,7 @@
 use Rattle.std.proofs.Common.{◌≡◌, ℕ, suc, ◌+◌, List, ◌∷◌, drop, IfOk, Some, None, Ok, Err, Option, Result, sym, ap, ◌∙◌, subst, subst₂, arith}
 use Rattle.std.specs.Result.{MatchResult, IsErrAnd}
 use Rattle.std.proofs.lemmas.Result.{err_from_is_err_and}
+use Rattle.fault_lines.specs.Locations.{at_line, on_line}
 use Rattle.lexer.specs.Lines.{FileLine}
 use Rattle.lines.specs.declared.paragraphs.ParaLine.{ParaLine}
 use Rattle.places.specs.declared.parts.Span.{Span}
@@ -13,13 +14,12 @@ use Rattle.sheet.specs.Stores.{open_answer}
 use Rattle.sheet.specs.Sheets.{Tells}
 use Rattle.items.specs.declared.faults.FileFault.{FileFault}
 use Rattle.items.specs.declared.faults.FileFault.TheVariants.{Refused}
-use Rattle.items.specs.declared.faults.Located.{Located}
-use Rattle.items.specs.Faults.{setback, at_line}
+use Rattle.items.specs.Faults.{Located, setback}
 use Rattle.sheet_file.specs.declared.cursors.Cursor.{Cursor}
 use Rattle.sheet_file.specs.Cursors.{ahead, number}
 use Rattle.sheet_file.specs.Plans.{Setting, Para, Paras, no_paras, with_para, para_of, first_line, heading_of, headed, surplus, paras_plan}
 use Rattle.sheet_file.specs.Done.{fault_in, Done, ParaDone, unopened, ended_after, ParasDone, all_ended, one_ended, one_faulty, Goes}
-use Rattle.sheet_file.specs.Turns.{Turned, Forward, on_line}
+use Rattle.sheet_file.specs.Turns.{Turned, Forward}
 
 module _ (P : Para) (m : Span) (is : m ≡ P.margins) (s t : Sheet) where
   para_refused : (e : Refusal) → Tells (opens m P.clear) (refused e) s t → Goes (λ es fs. ParaDone P es fs (Some (at_line P.line (Refused (setback e 0))))) s t

@@ -3,7 +3,7 @@ use Rattle.std.proofs.Common.{◌≡◌, ℕ, suc, ◌+◌, ◌-◌, ◌<◌, �
 use Rattle.std.proofs.lemmas.List.{length_push}
 use Rattle.lexer.specs.Lines.{FileLine}
 use Rattle.shapes.specs.Form.{Form}
-use Rattle.items.specs.declared.faults.Located.{Located}
+use Rattle.items.specs.Faults.{Located}
 use Rattle.items.specs.Shelves.{with_form}
 use Rattle.sheet_file.specs.Plans.{then, first_line, stairs_of, shapes_plan}
 

@@ -4,7 +4,7 @@
 --     BodyTold w s r t     the lines ahead of s, for a sheet of the width w, up to the paragraphs: r tells what these are read
 --                          against and how many they are, and they are ahead of t; or r is the fault
 use Rattle.std.specs.Prelude.{◌≡◌, ℕ, [], Ok, Err, Result}
-use Rattle.items.specs.declared.faults.Located.{Located}
+use Rattle.items.specs.Faults.{Located}
 use Rattle.items.specs.declared.shelves.Shelf.{Shelf}
 use Rattle.items.specs.Shelves.{kept}
 use Rattle.sheet_file.specs.declared.cursors.Cursor.{Cursor}

@@ -4,12 +4,12 @@
 --     Moves s r t    r is the first line ahead of s, and t has those behind it ahead; where there is none, r is the fault
 --                    that the file stops early
 use Rattle.std.specs.Prelude.{◌≡◌, ℕ, ◌+◌, List, [], ◌∷◌, Ok, Err, Result}
+use Rattle.fault_lines.specs.Locations.{at_line}
 use Rattle.lexer.specs.declared.lines.Line.{Line}
 use Rattle.lexer.specs.Lines.{FileLine}
 use Rattle.lexer.specs.LinesLeft.{line_of, left}
-use Rattle.items.specs.declared.faults.Located.{Located}
 use Rattle.items.specs.declared.faults.FileFault.TheVariants.{Extent}
-use Rattle.items.specs.Faults.{at_line}
+use Rattle.items.specs.Faults.{Located}
 use Rattle.sheet_file.specs.declared.cursors.Cursor.{Cursor}
 
 abbrev pub ahead : Cursor → List FileLine

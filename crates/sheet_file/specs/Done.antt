@@ -6,6 +6,7 @@
 --     ParasDone Ps es fs o     the same of some paragraphs
 --     Goes R s t               whatever calls led to the sheet s: some calls that are R to them led to t
 use Rattle.std.specs.Prelude.{◌≡◌, ℕ, List, [], ◌∷◌, Some, None, Ok, Err, Option, Result}
+use Rattle.fault_lines.specs.Locations.{at_line}
 use Rattle.rules.specs.declared.refusals.Refusal.{Refusal}
 use Rattle.rules.specs.Account.{Size}
 use Rattle.rules.specs.Runs.{Event, event, opens, ends, opened, ended, refused}
@@ -13,8 +14,7 @@ use Rattle.sheet.specs.declared.sheet.Sheet.{Sheet}
 use Rattle.sheet.specs.Sheets.{Past}
 use Rattle.items.specs.declared.faults.FileFault.{FileFault}
 use Rattle.items.specs.declared.faults.FileFault.TheVariants.{Refused}
-use Rattle.items.specs.declared.faults.Located.{Located}
-use Rattle.items.specs.Faults.{setback, at_line}
+use Rattle.items.specs.Faults.{Located, setback}
 use Rattle.items.specs.Asked.{judged}
 use Rattle.sheet_file.specs.Plans.{Planned, Items, Para, Paras}
 

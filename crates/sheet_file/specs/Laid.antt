@@ -6,7 +6,7 @@ use Rattle.rules.specs.declared.boxes.BoxRecord.{BoxRecord}
 use Rattle.rules.specs.Account.{Account}
 use Rattle.rules.specs.Runs.{Event, Run}
 use Rattle.rules.specs.Law.{Right}
-use Rattle.items.specs.declared.faults.Located.{Located}
+use Rattle.items.specs.Faults.{Located}
 use Rattle.sheet_file.specs.Plans.{Plan}
 use Rattle.sheet_file.specs.Done.{ParasDone}
 

@@ -11,12 +11,13 @@
 --     file_plan ..           a whole file
 -- What stands in a plan behind a paragraph with a fault of its own is never looked at.
 use Rattle.std.specs.Prelude.{ℕ, zero, suc, ◌+◌, ◌-◌, cond, List, [], ◌∷◌, ◌++◌, length, drop, Some, None, Ok, Err, Option, Result, nat_lt}
+use Rattle.fault_lines.specs.Locations.{at_line}
 use Rattle.lexer.specs.declared.faults.Fault.{Fault}
 use Rattle.lexer.specs.Lines.{FileLine, file_lines}
 use Rattle.lines.specs.declared.headings.SheetLine.{SheetLine}
 use Rattle.lines.specs.declared.paragraphs.ParaLine.{ParaLine}
 use Rattle.lines.specs.Counts.{shapes_form, paragraphs_form}
-use Rattle.lines.specs.Headings.{sheet_form, metric_form}
+use Rattle.lines.specs.Headings.{sheet_form}
 use Rattle.lines.specs.Paragraphs.{para_form}
 use Rattle.lines.specs.Flights.{steps_form}
 use Rattle.places.specs.declared.parts.Span.{Span}
@@ -25,16 +26,17 @@ use Rattle.rules.specs.declared.refusals.Refusal.{Refusal}
 use Rattle.rules.specs.declared.refusals.Refusal.TheVariants.{NoShape}
 use Rattle.rules.specs.Account.{Size}
 use Rattle.rules.specs.Runs.{Call}
+use Rattle.scales.specs.Headings.{metric_form}
 use Rattle.scales.specs.Scales.{family_advances}
 use Rattle.shapes.specs.declared.sides.Clear.{Clear}
 use Rattle.shapes.specs.Form.{Form}
 use Rattle.shapes.specs.Staircase.{make_stairs}
+use Rattle.sheet.specs.declared.sizes.SheetSize.{SheetSize}
 use Rattle.sheet.specs.Fresh.{new_refusal, new_size}
 use Rattle.text.specs.declared.faults.TextFault.TheVariants.{Metrics}
 use Rattle.items.specs.declared.faults.FileFault.{FileFault}
 use Rattle.items.specs.declared.faults.FileFault.TheVariants.{Form as BadForm, Extent, Long, Measuring, Refused}
-use Rattle.items.specs.declared.faults.Located.{Located}
-use Rattle.items.specs.Faults.{setback, at_line}
+use Rattle.items.specs.Faults.{Located, setback}
 use Rattle.items.specs.Onward.{onward}
 use Rattle.items.specs.Items.{item_call}
 use Rattle.items.specs.Shelves.{most_shapes}
@@ -151,12 +153,15 @@ paras_plan S (suc k) n ls = headed S n (first_line n heading_of ls) (paras_plan 
 -- What comes before the paragraphs
 
 -- a sheet of this size, unless it cannot be made over so many cells
-abbrev pub unless : Option Refusal → SheetLine → Result SheetLine FileFault
-unless None s = Ok s
-unless (Some e) s = Err (Refused (setback e 0))
+abbrev pub unless : Option Refusal → SheetSize → Result SheetSize FileFault
+unless None z = Ok z
+unless (Some e) z = Err (Refused (setback e 0))
 
-abbrev pub sheet_of : ℕ → FileLine → Result SheetLine FileFault
-sheet_of cells l = onward BadForm (sheet_form l) (λ s. unless (new_refusal s.width s.height s.line cells) s)
+abbrev pub size_said : SheetLine → SheetSize
+size_said s = record { width = s.width; height = s.height; line = s.line }
+
+abbrev pub sheet_of : ℕ → FileLine → Result SheetSize FileFault
+sheet_of cells l = onward BadForm (sheet_form l) (λ s. unless (new_refusal (size_said s) cells) (size_said s))
 
 abbrev pub or_unfit : Option (ℕ → ℕ) → Result (ℕ → ℕ) FileFault
 or_unfit (Some adv) = Ok adv
@@ -210,14 +215,14 @@ body_plan (Err x) = no_paras (Some x)
 
 -- a size of which there is no sheet, and a list of so many places
 abbrev pub no_size : ℕ → ℕ → Size
-no_size cells places = new_size 0 0 0 cells places
+no_size cells places = new_size (record { width = 0; height = 0; line = 0 }) cells places
 
 abbrev pub stopped : Size → Located → Plan
 stopped z x = record { size = z; body = no_paras (Some x) }
 
 -- where the first line is read as r, and the lines ls stand behind it
-abbrev pub sheeted : Result SheetLine FileFault → List FileLine → ℕ → ℕ → ℕ → ℕ → Plan
-sheeted (Ok s) ls cells records runs places = record { size = new_size s.width s.height s.line cells places; body = body_plan (body_of s.width records runs ls) }
+abbrev pub sheeted : Result SheetSize FileFault → List FileLine → ℕ → ℕ → ℕ → ℕ → Plan
+sheeted (Ok z) ls cells records runs places = record { size = new_size z cells places; body = body_plan (body_of z.width records runs ls) }
 sheeted (Err f) ls cells records runs places = stopped (no_size cells places) (at_line 1 f)
 
 abbrev pub lines_plan : List FileLine → ℕ → ℕ → ℕ → ℕ → Plan

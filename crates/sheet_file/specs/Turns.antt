@@ -3,7 +3,6 @@
 --     Turned D plan c r d s t    one of the parts that are ahead of the cursor c was set, on a sheet that was s and is t: whatever
 --                                those ahead of d come to, with it they come to that; or r is the fault
 --     mapped m r                 r, with its value told by m
---     on_line n r                r, with its fault told to be on line n
 --     Took m f s r t             the first line ahead of the cursor s was read by f: r is what came of it, by m, and t is past it
 --     Forward k s t              the cursor t is k lines further than s
 use Rattle.std.specs.Prelude.{◌≡◌, ℕ, suc, ◌+◌, List, drop, Some, Ok, Err, Option, Result}
@@ -11,8 +10,7 @@ use Rattle.lexer.specs.Lines.{FileLine}
 use Rattle.rules.specs.Runs.{Event}
 use Rattle.sheet.specs.declared.sheet.Sheet.{Sheet}
 use Rattle.items.specs.declared.faults.FileFault.{FileFault}
-use Rattle.items.specs.declared.faults.Located.{Located}
-use Rattle.items.specs.Faults.{at_line}
+use Rattle.items.specs.Faults.{Located}
 use Rattle.sheet_file.specs.declared.cursors.Cursor.{Cursor}
 use Rattle.sheet_file.specs.Cursors.{ahead, number}
 use Rattle.sheet_file.specs.Plans.{first_line}
@@ -33,10 +31,6 @@ Turned D plan c (Err x) d s t = Goes (λ es fs. (k : ℕ) → D (plan (suc k) (n
 abbrev pub mapped : {A B E : Type 0} → (B → A) → Result B E → Result A E
 mapped m (Ok b) = Ok (m b)
 mapped m (Err e) = Err e
-
-abbrev pub on_line : {A : Type 0} → ℕ → Result A FileFault → Result A Located
-on_line n (Ok a) = Ok a
-on_line n (Err f) = Err (at_line n f)
 
 abbrev pub Took : {A B : Type 0} → (B → A) → (FileLine → Result A FileFault) → Cursor → Result B Located → Cursor → Type 0
 Took m f s (Ok b) t = (first_line (number s) f (ahead s) ≡ Ok (m b, ahead t)) × (number t ≡ number s + 1)

@@ -14,16 +14,16 @@ use crate::readers::{formed, scale_of, size_of, stairs_of};
 use items::faults::Located;
 use items::shelves::{MOST_SHAPES, Shelf};
 use lines::counts::{paragraphs_line, shapes_line};
-use lines::headings::SheetLine;
 use scales::Scale;
 use shapes::stairs::Stairs;
+use sheet::sizes::SheetSize;
 
 // The most paragraphs of a file.
 const MOST_PARAGRAPHS: u16 = 256;
 
 // The size of the sheet, where it can be made over so many cells.
-pub(crate) fn next_size(cursor: &mut Cursor<'_>, cells: usize) -> Result<SheetLine, Located>
-    ensures { Took (λ s. s) (sheet_of cells) cursor.old result cursor.new }
+pub(crate) fn next_size(cursor: &mut Cursor<'_>, cells: usize) -> Result<SheetSize, Located>
+    ensures { Took (λ z. z) (sheet_of cells) cursor.old result cursor.new }
 {
     let line = cursor.next()?;
     cursor.judge(size_of(line, cells))

@@ -10,10 +10,12 @@ use items::faults::FileFault;
 use lexer::faults::Fault;
 use lexer::lines::Line;
 use lines::flights::steps_line;
-use lines::headings::{SheetLine, metric_line, sheet_line};
+use lines::headings::sheet_line;
 use scales::Scale;
+use scales::headings::metric_line;
 use shapes::stairs::Stairs;
 use sheet::fault;
+use sheet::sizes::SheetSize;
 
 // A line that is not of its form, as a fault of the file.
 pub(crate) fn formed<T>(res: Result<T, Fault>) -> Result<T, FileFault>
@@ -23,16 +25,16 @@ pub(crate) fn formed<T>(res: Result<T, Fault>) -> Result<T, FileFault>
 }
 
 // The size of the sheet, where it can be made over so many cells.
-pub(crate) fn size_of(line: Line<'_>, cells: usize) -> Result<SheetLine, FileFault>
+pub(crate) fn size_of(line: Line<'_>, cells: usize) -> Result<SheetSize, FileFault>
     ensures { result ≡ sheet_of cells (line_of line.entry) }
 {
-    let size = sheet_line(line)?;
-    let width = u32::from(size.width);
-    let height = u32::from(size.height);
-    match fault(width, height, u32::from(size.line), cells) {
-        None => Ok(size),
-        Some(refusal) => Err(FileFault::from(refusal)),
-    }
+    let said = sheet_line(line)?;
+    let size = SheetSize {
+        width: u32::from(said.width),
+        height: u32::from(said.height),
+        line: u32::from(said.line),
+    };
+    fault(size, cells).map_or(Ok(size), |refusal| Err(FileFault::from(refusal)))
 }
 
 // The metrics that texts are measured by.
@@ -48,6 +50,5 @@ pub(crate) fn stairs_of(line: Line<'_>) -> Result<Stairs, FileFault>
     ensures { mapped stairs_model result ≡ stairs_of (line_of line.entry) }
 {
     let said = steps_line(line)?;
-    let count = usize::from(said.count);
-    Ok(Stairs::new(u32::from(said.width), &said.steps[0..count])?)
+    Ok(Stairs::new(u32::from(said.width), said.steps.as_slice())?)
 }

@@ -14,6 +14,7 @@ use reaches::reach::Reach;
 use rules::boxes::BoxRecord;
 use sheet::answers::Finished;
 use sheet::sheet::Sheet;
+use sheet::sizes::SheetSize;
 use text::{Run, Word};
 
 // The most bytes of a file.
@@ -55,7 +56,12 @@ fn nothing<'a>(cells: &'a mut [Reach], list: &'a mut [BoxRecord], fault: Located
     ensures laid { Laid (stopped (no_size (length cells.old) (length list.old)) fault) result.list.boxes.now result.fault }
     ensures spare { result.list.spare.now ≡ drop (length result.list.boxes.now) list.old }
 {
-    let sheet = Sheet::new(0, 0, 0, cells, list);
+    let none = SheetSize {
+        width: 0,
+        height: 0,
+        line: 0,
+    };
+    let sheet = Sheet::new(none, cells, list);
     Reading {
         list: sheet.finish(),
         fault: Some(fault),
@@ -83,10 +89,8 @@ pub fn read<'a>(
         Ok(size) => size,
         Err(fault) => return nothing(cells, list, fault),
     };
-    let width = u32::from(size.width);
-    let height = u32::from(size.height);
-    let mut sheet = Sheet::new(width, height, u32::from(size.line), cells, list);
-    let done = lay_out(&mut sheet, width, cursor, words, runs);
+    let mut sheet = Sheet::new(size, cells, list);
+    let done = lay_out(&mut sheet, size.width, cursor, words, runs);
     Reading {
         list: sheet.finish(),
         fault: done.err(),

@@ -1,8 +1,5 @@
 // What is printed of a sheet file: its boxes, or its first fault.
 #![tactic(auto)]
 
-// The line of a fault.
-pub mod faults;
-
 // A whole file, with memory for any sheet.
 pub mod reports;

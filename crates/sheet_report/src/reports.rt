@@ -1,33 +1,21 @@
 // What is printed of a file, with memory for the highest sheet, the longest text and 1,024 boxes.
 ghost use Rattle.std.specs.Prelude.{◌≡◌, IfOk};
-ghost use Rattle.printing.specs.Boxes.{printed};
-ghost use Rattle.printing.specs.Faults.{fault_line};
 ghost use Rattle.sheet_report.specs.Reports.{Reports};
 
-use crate::faults::fault_line;
-use printing::{FaultLine, fault_length, print, print_fault, printed_length};
+use fault_lines::tellings::FaultLine;
+use printing::{Printable, print_at_front, wanted};
 use reaches::reach::Reach;
 use rules::boxes::{BoxRecord, LineBox};
 use sheet_file::reading::read;
 use std::alloc::{AllocError, Global};
-use text::{Run, Word};
+use text::{MOST_RUNS, MOST_WORDS, Run, Word};
 
-// The cells that the highest sheet needs, the places of the list, and the records and cells that the longest text needs.
+// The cells that the highest sheet needs, and the places of the list.
 const MOST_CELLS: usize = 8192;
 
 const MOST_PLACES: usize = 1024;
 
-const MOST_WORDS: usize = 4096;
-
-const MOST_RUNS: usize = 8192;
-
-const NO_REACH: Reach = Reach {
-    box_left: 0,
-    box_right: 0,
-    area_left: 0,
-    area_right: 0,
-};
-
+// What stands in a place of the list that is not used.
 const NO_BOX: BoxRecord = BoxRecord::Line(LineBox {
     x: 0,
     y: 0,
@@ -35,37 +23,13 @@ const NO_BOX: BoxRecord = BoxRecord::Line(LineBox {
     words: 0,
 });
 
-const NO_WORD: Word = Word {
-    place: 0,
-    length: 0,
-    advance: 0,
-};
-
-const NO_RUN: Run = Run {
-    advance: 0,
-    count: 0,
-};
-
-// The boxes of a list, and what they come to.
-fn show(heap: Global, boxes: &[BoxRecord]) -> Result<Vec<u8>, AllocError>
-    ensures { IfOk result (λ v. v.items ≡ printed boxes.now) }
+// What is printed of this, in memory of just its length.
+fn shown<P: Printable>(heap: Global, item: &P) -> Result<Vec<u8>, AllocError>
+    ensures { IfOk result (λ v. v.items ≡ P.bytes item.now) }
 {
-    let mut out = vec![in heap; 0; printed_length(boxes)]?;
-    match print(boxes, out.as_mut_slice()) {
-        Ok(_) => Ok(out),
-        Err(_) => unreachable(),
-    }
-}
-
-// A fault alone.
-fn show_fault(heap: Global, fault: FaultLine) -> Result<Vec<u8>, AllocError>
-    ensures { IfOk result (λ v. v.items ≡ fault_line fault) }
-{
-    let mut out = vec![in heap; 0; fault_length(fault)]?;
-    match print_fault(fault, out.as_mut_slice()) {
-        Ok(_) => Ok(out),
-        Err(_) => unreachable(),
-    }
+    let mut out = vec![in heap; 0; wanted(item)]?;
+    print_at_front(item, out.as_mut_slice()).unwrap();
+    Ok(out)
 }
 
 // What is printed of a file: each box of its sheet and the total, or the first fault alone. The one other answer is that
@@ -73,13 +37,13 @@ fn show_fault(heap: Global, fault: FaultLine) -> Result<Vec<u8>, AllocError>
 pub fn report(heap: Global, file: &[u8]) -> Result<Vec<u8>, AllocError>
     ensures { IfOk result (λ v. Reports file.now v.items) }
 {
-    let mut cells = [NO_REACH; MOST_CELLS];
+    let mut cells = [Reach::default(); MOST_CELLS];
     let mut list = [NO_BOX; MOST_PLACES];
-    let mut words = [NO_WORD; MOST_WORDS];
-    let mut runs = [NO_RUN; MOST_RUNS];
+    let mut words = [Word::default(); MOST_WORDS];
+    let mut runs = [Run::default(); MOST_RUNS];
     let reading = read(file, &mut cells, &mut list, &mut words, &mut runs);
     match reading.fault {
-        Some(fault) => show_fault(heap, fault_line(fault)),
-        None => show(heap, reading.list.boxes),
+        Some(fault) => shown(heap, &FaultLine::from(fault)),
+        None => shown(heap, &reading.list.boxes),
     }
 }

@@ -1,13 +1,13 @@
 // How a cursor moves.
 ghost use Rattle.std.specs.Prelude.{◌≡◌, ◌^◌, ◌<◌, length};
+ghost use Rattle.fault_lines.specs.Locations.{on_line};
 ghost use Rattle.lexer.specs.Lines.{file_lines};
-ghost use Rattle.items.specs.Faults.{at_line};
 ghost use Rattle.sheet_file.specs.Cursors.{number, ahead, Moves};
 ghost use Rattle.sheet_file.specs.Done.{fault_in};
 ghost use Rattle.sheet_file.specs.Plans.{surplus};
-ghost use Rattle.sheet_file.specs.Turns.{on_line};
 
 use crate::cursors::Cursor;
+use fault_lines::locations::on_line;
 use items::faults::{FileFault, Located};
 use lexer::lines::{Line, Lines};
 
@@ -24,32 +24,11 @@ impl<'a> Cursor<'a> {
         }
     }
 
-    // The fault of the line that comes next.
-    fn at(&self, fault: FileFault) -> Located
-        ensures { result ≡ at_line (number self.now) fault }
-    {
-        Located {
-            line: self.read + 1,
-            fault,
-        }
-    }
-
-    // The fault of the line that was read last.
-    pub(crate) fn behind(&self, fault: FileFault) -> Located
-        ensures { result ≡ at_line self.now.read fault }
-    {
-        Located {
-            line: self.read,
-            fault,
-        }
-    }
-
     // What came of the line that was read last, with its number where it is a fault.
-    pub(crate) fn judge<T>(&self, res: Result<T, FileFault>) -> Result<T, Located>
-        ensures { result ≡ on_line self.now.read res }
+    pub(crate) fn judge<T>(&self, outcome: Result<T, FileFault>) -> Result<T, Located>
+        ensures { result ≡ on_line self.now.read outcome }
     {
-        let line = self.read;
-        res.map_err(|fault| Located { line, fault })
+        on_line(self.read, outcome)
     }
 
     // No line is left.
@@ -57,7 +36,7 @@ impl<'a> Cursor<'a> {
         ensures { fault_in result ≡ surplus (number self.old) (ahead self.old) }
     {
         if self.lines.next().is_some() {
-            return Err(self.at(FileFault::Extent));
+            return on_line(self.read + 1, Err(FileFault::Extent));
         }
         Ok(())
     }
@@ -66,9 +45,7 @@ impl<'a> Cursor<'a> {
     pub(crate) fn next(&mut self) -> Result<Line<'a>, Located>
         ensures { Moves self.old result self.new }
     {
-        let Some(line) = self.lines.next() else {
-            return Err(self.at(FileFault::Extent));
-        };
+        let line = on_line(self.read + 1, self.lines.next().ok_or(FileFault::Extent))?;
         self.read += 1;
         Ok(line)
     }

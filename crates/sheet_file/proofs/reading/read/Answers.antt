@@ -25,12 +25,7 @@ returns-clause-laid c =
     let s = c.new-sheet.result in
     let t = c.lay_out-done.new.sheet in
     let o = fault_in c.lay_out-done.result in
-    let wide : c.from-width.result ≡ size.width = cc in
-    let tall : c.from-height.result ≡ size.height = cc in
-    let deep : c.from.result ≡ size.line = cc in
-    let P : Plan = record { size = new_size size.width size.height size.line cells places; body = body_plan (body_of size.width records runs rest) } in
-    let fresh : Past P.size [] s = rw (wide, tall, deep) at c.new-sheet.ensures.account in
-    let goes : Goes (λ es fs. ParasDone P.body es fs o) s t = rw wide at c.lay_out-done.ensures.told in
+    let P : Plan = record { size = new_size size cells places; body = body_plan (body_of size.width records runs rest) } in
     let fault : c.err.result ≡ o = c.err.ensures.value ∙ fault_part c.lay_out-done.result in
     let is = plan_sheeted file cells records runs places (number from) (ahead from) rest size c.if-file-gt-LONGEST.false c.new-cursor.ensures.number c.new-cursor.ensures.ahead c.in-Ok.ensures.0 in
-    rw (is, fault) (laid_from P s t c.finish.result.boxes.now o fresh goes c.finish.ensures.list)
+    rw (is, fault) (laid_from P s t c.finish.result.boxes.now o c.new-sheet.ensures.account c.lay_out-done.ensures.told c.finish.ensures.list)
