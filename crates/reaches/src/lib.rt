@@ -2,7 +2,9 @@
 #![tactic(auto)]
 
 // What a panel reaches on one of its rows.
-pub mod panels;
+mod panels;
+// A part of a box on one row.
+pub mod part;
 // The reach of some rows, and what it is held against.
 pub mod reach;
 // What a band keeps beside a panel, and the place nearest a side.

@@ -2,6 +2,7 @@
 ghost use Rattle.std.specs.Prelude.{◌≡◌, ◌+◌, ◌^◌, ◌<◌, ◌≤◌, cond, nat_lt};
 ghost use Rattle.reaches.specs.Panels.{reach_at};
 
+use crate::part::Part;
 use crate::reach::Reach;
 use shapes::sides::Side;
 
@@ -13,24 +14,25 @@ fn in_from(edge: u32, e: u32) -> u32
     if e > 0 { edge + e } else { 0 }
 }
 
-// What a panel's box, w wide at x, and its area, e wide, reach on a row of a sheet of this width.
-pub fn reach_on(width: u32, side: Side, x: u32, w: u32, e: u32) -> Reach
-    requires whole { x + w ≤ width }
-    requires part { e ≤ w }
-    ensures { result ≡ reach_at width side x w w e }
-{
-    match side {
-        Side::Left => Reach {
-            box_left: in_from(x, w),
-            area_left: in_from(x, e),
-            ..Reach::default()
-        },
-        Side::Right => {
-            let edge = width - (x + w);
-            Reach {
-                box_right: in_from(edge, w),
-                area_right: in_from(edge, e),
+impl Part {
+    // What the whole box and this part of it, as a panel's area, reach on a row of a sheet of this width.
+    pub fn reach(self, width: u32) -> Reach
+        requires { self.x + self.w ≤ width }
+        ensures { result ≡ reach_at width self.side self.x self.w self.w self.e }
+    {
+        match self.side {
+            Side::Left => Reach {
+                box_left: in_from(self.x, self.w),
+                area_left: in_from(self.x, self.e),
                 ..Reach::default()
+            },
+            Side::Right => {
+                let edge = width - (self.x + self.w);
+                Reach {
+                    box_right: in_from(edge, self.w),
+                    area_right: in_from(edge, self.e),
+                    ..Reach::default()
+                }
             }
         }
     }

@@ -16,13 +16,8 @@ use Rattle.places.proofs.Firsts.{first_row_to}
 use Rattle.places.proofs.Nearest.{good_down, best, nowhere}
 use Rattle.rows.specs.declared.Rows.{Rows}
 use Rattle.rows.specs.Told.{Tells}
-use Rattle.rows.specs.Asked.{sizes_of, wanted, panel_at, Ends, Shows}
+use Rattle.rows.specs.Asked.{sizes_of, wanted, panel_at, Shows}
 use Rattle.rows.specs.OneRow.{line_band, Leaves, OnRow}
-
--- a line that ends within so many rows ends within more
-pub ends_within : {H K : ℕ} (n : Option Line) (L : ℕ) → H ≤ K → Ends n L H → Ends n L K
-ends_within None L le h = tt
-ends_within (Some n) L le h = omega arith
 
 -- the open line keeps its room beside a panel exactly when its band leaves it beside the panel's widest row
 leaves_keeps : (z : Sizes) (S : Scene) (p : Placed) (around : Span) (n : Option Line) → ((l : Line) → n ≡ Some l → l.top ≤ p.y)

@@ -20,6 +20,8 @@ fn index(row: u32) -> usize
     row as usize
 }
 
+// That the margins end on the sheet is asked at each call, since they are a paragraph's: a value that held them with the
+// rows would be made anew for each call.
 impl<'a> Rows<'a> {
     // How far in the panels reach on the n rows from `top` on.
     pub(crate) fn reach_of(&self, top: u32, n: u32) -> Reach
@@ -38,6 +40,7 @@ impl<'a> Rows<'a> {
     {
         let at = index(row);
         let old = self.tree.fold(at, at + 1);
+        // The row is in the tree, so this sets it.
         let _ = self.tree.set(at, reach.join(old));
     }
 

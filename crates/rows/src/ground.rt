@@ -5,7 +5,7 @@ ghost use Rattle.rows.specs.Asked.{panel_at, Ends};
 ghost use Rattle.rows.specs.OneRow.{Leaves};
 
 use places::parts::{Line, Span};
-use reaches::spans::beside;
+use reaches::part::Part;
 use shapes::Shape;
 use shapes::sides::Side;
 
@@ -44,9 +44,9 @@ impl Ground {
         if y >= bottom {
             return true;
         }
-        let width = shape.width();
-        let extent = widest_of(shape, bottom - y);
-        let left = beside(around, side, x, width, extent);
+        let w = shape.width();
+        let e = widest_of(shape, bottom - y);
+        let left = Part { side, x, w, e }.beside(around);
         words.used <= left.to.saturating_sub(left.from)
     }
 }

@@ -7,7 +7,7 @@ ghost use Rattle.rows.specs.Asked.{panel_at};
 
 use crate::Rows;
 use places::parts::Place;
-use reaches::panels::reach_on;
+use reaches::part::Part;
 use shapes::Shape;
 use shapes::sides::Side;
 
@@ -19,10 +19,10 @@ impl<'a> Rows<'a> {
         ensures stays { Stays self.old self.new }
         ensures told { (qs : List Placed) → Tells self.old qs → Tells self.new (panel_at side place.x place.y (S.model shape.now) ∷ qs) }
     {
-        let width = shape.width();
+        let (x, w) = (place.x, shape.width());
         for k in 0..shape.height() {
-            let extent = shape.extent(k);
-            let taken = reach_on(self.width, side, place.x, width, extent);
+            let e = shape.extent(k);
+            let taken = Part { side, x, w, e }.reach(self.width);
             self.widen(place.y + k, taken);
         }
     }

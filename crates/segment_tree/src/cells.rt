@@ -7,6 +7,7 @@ ghost use Rattle.segment_tree.specs.Cells.{Agrees};
 use crate::Element;
 
 // Sets leaf i, and the cells above it up to the first that stays as it was.
+// It walks up the tree by hand: each step goes to the cell above the last.
 pub(crate) fn put<E: Element>(cells: &mut [E], size: usize, i: usize, e: E)
     requires agrees { Agrees E.none E.op size cells.old }
     requires inside { i < size }
@@ -36,7 +37,7 @@ pub(crate) fn join_all<E: Element>(cells: &mut [E], size: usize)
     }
 }
 
-// Makes every cell empty.
+// Makes every cell empty. Not by `fill`, which asks for a clone that cannot fail: a kind of element promises none.
 pub(crate) fn clear<E: Element>(cells: &mut [E])
     ensures { (k : ℕ) → k < length cells.old → slice_index_or cells.new k E.none ≡ E.none }
 {

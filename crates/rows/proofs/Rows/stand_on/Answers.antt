@@ -1,7 +1,7 @@
 -- One row: too tight for the open line, or good.
 use Rattle.std.proofs.Common.{◌≤◌, arith}
 use Rattle.places.specs.Bands.{room}
-use Rattle.rows.proofs.Halving.{ends_within, too_tight, good_row}
+use Rattle.rows.proofs.Halving.{too_tight, good_row}
 use Rattle.rows.proofs.Rows.stand_on.Goals as goal
 
 pub returns-then-keeps-clause-told : goal.returns-then-keeps-clause-told
@@ -19,6 +19,3 @@ returns-else-keeps-clause-told g c = λ scene k shows low.
     (g.S.Shape.model c.args.shape.now) c.args.y c.width-width.result c.free_on-free.result
     c.width-width.ensures c.requires.around c.free_on-free.ensures.told scene k shows low
     c.nearest-x.result c.nearest-x.ensures c.if-keeps.ensures.lost
-
-pub keeps-requires-clause-ends : goal.keeps-requires-clause-ends
-keeps-requires-clause-ends g c = let high = c.args.self.now.high in ends_within c.args.ground.current c.args.ground.line (omega arith) c.requires.ends

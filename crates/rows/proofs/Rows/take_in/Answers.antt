@@ -19,10 +19,10 @@ loop-k-preserved g c =
     let small : k < f.tall = omega (arith, c.height-k-end.ensures) in
     let inside : c.args.place.y + k < length (elements now.tree) = omega (arith, long_enough now, stays.height, c.requires.high) in
     let reach =
-    row_taken before.width now.width c.width-width.result c.extent-extent.result q k c.reach_on-taken.result
-    small stays.width c.width-width.ensures c.extent-extent.ensures c.reach_on-taken.ensures in (
+    row_taken before.width now.width c.width-w.result c.extent-e.result q k c.reach-taken.result
+    small stays.width c.width-w.ensures c.extent-e.ensures c.reach-taken.ensures in (
       stays_on before now next stays c.widen.ensures.stays,
-      grown_more before.width q k (elements before.tree) (elements now.tree) (elements next.tree) c.reach_on-taken.result inside c.loop-k.invariant.1 reach c.widen.ensures.after,
+      grown_more before.width q k (elements before.tree) (elements now.tree) (elements next.tree) c.reach-taken.result inside c.loop-k.invariant.1 reach c.widen.ensures.after,
     )
 
 pub returns-clause-told : goal.returns-clause-told
