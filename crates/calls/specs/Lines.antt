@@ -1,6 +1,5 @@
 -- The lines of a script, field by field: the fields are parted by one space. Assumes nothing.
 --     size_form l      what a line `sheet W H L PLACES` says
---     metric_form l    `metric FAMILY NUMBER`
 --     opening_form l   `open L R CLEAR`
 --     plain_form l     `box SIDE CLEAR W P`
 --     passage_form l   `text FROM REST`; all bytes behind the space after FROM are the text's, and there may be none
@@ -12,11 +11,10 @@ use Rattle.lexer.specs.declared.faults.Fault.{Fault}
 use Rattle.lexer.specs.Forms.{fault, word, a_number, number_within, take, finish}
 use Rattle.lexer.specs.Lines.{FileLine}
 use Rattle.calls.specs.declared.asks.Size.{Size}
-use Rattle.calls.specs.declared.asks.Metric.{Metric}
 use Rattle.calls.specs.declared.asks.Opening.{Opening}
 use Rattle.calls.specs.declared.asks.PlainPanel.{PlainPanel}
 use Rattle.calls.specs.declared.asks.Passage.{Passage}
-use Rattle.calls.specs.Names.{a_side, a_clear, a_family}
+use Rattle.lines.specs.Names.{a_side, a_clear}
 
 -- the most places of a list
 abbrev pub most_places : ℕ
@@ -30,13 +28,6 @@ size_form l =
     (λ h r. take a_number l.bytes r
     (λ n s. take (number_within 0 most_places) l.bytes s
     (λ k t. finish l.ended l.bytes t (record { width = w; height = h; line = n; places = k }))))))
-
-abbrev pub metric_form : FileLine → Result Metric Fault
-metric_form l =
-    take (word (codes "metric")) l.bytes 0
-    (λ _ p. take a_family l.bytes p
-    (λ f q. take a_number l.bytes q
-    (λ n r. finish l.ended l.bytes r (record { family = f; number = n }))))
 
 abbrev pub opening_form : FileLine → Result Opening Fault
 opening_form l =

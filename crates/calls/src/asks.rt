@@ -1,8 +1,8 @@
 // What a line of a script asks for.
-use crate::names::Family;
 use places::parts::Span;
+use scales::headings::MetricLine;
 use shapes::sides::{Clear, Side};
-use shapes::stairs::{MOST_STEPS, Step};
+use shapes::stairs::Steps;
 
 // A new sheet: its width, its height, the height of its lines, and the places of its list.
 #[derive(Clone, Copy)]
@@ -11,13 +11,6 @@ pub struct Size {
     pub height: u16,
     pub line: u16,
     pub places: u16,
-}
-
-// Another metrics: its family, and the advance of its cell or the size of its table.
-#[derive(Clone, Copy)]
-pub struct Metric {
-    pub family: Family,
-    pub number: u16,
 }
 
 // A new paragraph.
@@ -36,14 +29,13 @@ pub struct PlainPanel {
     pub height: u16,
 }
 
-// A panel that is a staircase: the first `count` of these steps, from the top down.
+// A panel that is a staircase.
 #[derive(Clone, Copy)]
 pub struct StairsPanel {
     pub side: Side,
     pub clear: Clear,
     pub width: u16,
-    pub count: u16,
-    pub steps: [Step; MOST_STEPS],
+    pub steps: Steps,
 }
 
 // The words of a text from a given one on, counted from 0.
@@ -56,7 +48,7 @@ pub struct Passage<'a> {
 #[derive(Clone, Copy)]
 pub enum Ask<'a> {
     Sheet(Size),
-    Metric(Metric),
+    Metric(MetricLine),
     Open(Opening),
     Plain(PlainPanel),
     Stairs(StairsPanel),

@@ -7,16 +7,14 @@ use std::io::Read;
 
 // What a line asks for.
 mod asks;
-// The names that a field may have: sides, clears and families of metrics.
-mod names;
+// What is kept from line to line.
+mod hands;
 // All lines of a script, one after another.
 mod playing;
 // What a line is read as.
 mod reading;
 // What is printed.
 mod replies;
-// A metrics of one of the families.
-mod scales;
 // One line: the call that it asks for, with the slip in hand.
 mod turns;
 

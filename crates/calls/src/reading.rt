@@ -1,16 +1,18 @@
 // What a line of a script is read as.
 ghost use Rattle.std.specs.Prelude.{◌≡◌, ◌≤◌, IfSome, IfOk};
 ghost use Rattle.lexer.specs.LinesLeft.{line_of};
-ghost use Rattle.calls.specs.Lines.{most_places, size_form, metric_form, opening_form, plain_form, said, passage_form, word_form};
+ghost use Rattle.shapes.specs.Staircase.{most_steps};
+ghost use Rattle.calls.specs.Lines.{most_places, size_form, opening_form, plain_form, said, passage_form, word_form};
 
-use crate::asks::{Ask, Metric, Opening, Passage, PlainPanel, Size, StairsPanel};
-use crate::names::{ClearName, FamilyName, SideName};
+use crate::asks::{Ask, Opening, Passage, PlainPanel, Size, StairsPanel};
 use lexer::faults::{Cause, Fault};
 use lexer::fields::Fields;
 use lexer::kinds::{Number, Within, Word};
 use lexer::lines::Line;
+use lines::names::{ClearName, SideName};
 use places::parts::Span;
-use shapes::stairs::{MOST_STEPS, Step};
+use scales::headings::metric_line;
+use shapes::stairs::{MOST_STEPS, Step, Steps};
 
 // The most places of a list.
 pub const MOST_PLACES: u16 = 1024;
@@ -36,18 +38,6 @@ fn read_size(line: Line<'_>) -> Result<Size, Fault>
         line: rows,
         places,
     })
-}
-
-// `metric cell C` or `metric table Q`
-fn read_metric(line: Line<'_>) -> Result<Metric, Fault>
-    ensures { result ≡ metric_form (line_of line.entry) }
-{
-    let mut fields = Fields::new(line);
-    fields.take(&Word { text: b"metric" })?;
-    let family = fields.take(&FamilyName)?;
-    let number = fields.take(&Number)?;
-    fields.end()?;
-    Ok(Metric { family, number })
 }
 
 // `open L R CLEAR`
@@ -116,14 +106,14 @@ fn read_passage<'a>(line: Line<'a>) -> Result<Passage<'a>, Fault>
 }
 
 // The rows and the extents of so many steps.
-fn read_steps(fields: &mut Fields<'_>, count: u16) -> Result<[Step; MOST_STEPS], Fault>
-    requires { count ≤ 16 }
+fn read_steps(fields: &mut Fields<'_>, count: u16) -> Result<Steps, Fault>
+    requires { count ≤ most_steps }
 {
-    let mut steps = [Step { rows: 0, extent: 0 }; MOST_STEPS];
-    for i in 0..usize::from(count) {
+    let mut steps = Steps::default();
+    for _ in 0..count {
         let rows = fields.take(&Number)?;
         let extent = fields.take(&Number)?;
-        steps[i] = Step { rows, extent };
+        steps.push(Step { rows, extent });
     }
     Ok(steps)
 }
@@ -145,7 +135,6 @@ fn read_stairs(line: Line<'_>) -> Result<StairsPanel, Fault> {
         side,
         clear,
         width,
-        count,
         steps,
     })
 }
@@ -162,38 +151,28 @@ fn whole<'a>(line: Line<'a>) -> Line<'a> {
 pub(crate) fn size_of(line: Line<'_>) -> Option<Size>
     ensures { IfSome result (λ s. s.places ≤ most_places) }
 {
-    match read_size(whole(line)) {
-        Ok(size) => Some(size),
-        Err(_) => None,
-    }
+    read_size(whole(line)).ok()
 }
 
 // What a line asks for, or nothing where it is of no form.
 pub(crate) fn read<'a>(line: Line<'a>) -> Option<Ask<'a>> {
     let line = whole(line);
-    if let Ok(size) = read_size(line) {
-        return Some(Ask::Sheet(size));
-    }
-    if let Ok(metric) = read_metric(line) {
-        return Some(Ask::Metric(metric));
-    }
-    if let Ok(opening) = read_opening(line) {
-        return Some(Ask::Open(opening));
-    }
-    if let Ok(panel) = read_plain(line) {
-        return Some(Ask::Plain(panel));
-    }
-    if let Ok(panel) = read_stairs(line) {
-        return Some(Ask::Stairs(panel));
-    }
-    if let Ok(passage) = read_passage(line) {
-        return Some(Ask::Text(passage));
-    }
-    if read_word(line, b"end").is_ok() {
-        return Some(Ask::End);
-    }
-    if read_word(line, b"totals").is_ok() {
-        return Some(Ask::Totals);
-    }
-    None
+    let ask = match Fields::new(line).next()? {
+        b"sheet" => Ask::Sheet(read_size(line).ok()?),
+        b"metric" => Ask::Metric(metric_line(line).ok()?),
+        b"open" => Ask::Open(read_opening(line).ok()?),
+        b"box" => Ask::Plain(read_plain(line).ok()?),
+        b"steps" => Ask::Stairs(read_stairs(line).ok()?),
+        b"text" => Ask::Text(read_passage(line).ok()?),
+        b"end" => {
+            read_word(line, b"end").ok()?;
+            Ask::End
+        },
+        b"totals" => {
+            read_word(line, b"totals").ok()?;
+            Ask::Totals
+        }
+        _ => return None,
+    };
+    Some(ask)
 }

@@ -1,11 +1,15 @@
 // What is printed.
 ghost use Rattle.std.specs.Prelude.{◌≡◌, Some};
-ghost use Rattle.calls.specs.Shown.{stop_words, open_words, side_word, reply_words, row_line};
+ghost use Rattle.calls.specs.Shown.{refused_words, reply_words, row_line, denied_number};
+ghost use Rattle.calls.specs.declared.replies.Denied.TheVariants.{Call, Text};
+ghost use Rattle.rules.specs.declared.refusals.Refusal.TheVariants as R;
+ghost use Rattle.text.specs.declared.faults.TextFault.TheVariants.{Metrics};
 
+use metrics::Unfit;
 use places::parts::Place;
-use rules::boxes::{BoxRecord, LineBox, PanelBox, Totals};
+use rules::boxes::{BoxRecord, LineBox, Totals};
 use rules::refusals::Refusal;
-use shapes::sides::Side;
+use shapes::NoShape;
 use sheet::answers::Flowed;
 use std::fmt;
 use text::TextFault;
@@ -21,68 +25,81 @@ pub enum Reply {
     Flowed(Flowed),
     Ended,
     Totals(Totals),
-    // The call was refused.
-    Refused(Refusal),
-    // There is no such metrics, or the text is not measured.
-    Unmeasured(TextFault),
     Skipped,
 }
+
+// Why a line is answered by a refusal.
+#[derive(Clone, Copy)]
+pub enum Denied {
+    // The call was refused.
+    Call(Refusal),
+    // There is no such metrics, or the text is not measured.
+    Text(TextFault),
+}
+
+impl Denied {
+    // The number that is printed.
+    fn number(self) -> u8
+        ensures { result ≡ denied_number self }
+    {
+        match self {
+            Denied::Call(refusal) => refusal.number(),
+            Denied::Text(fault) => fault.cause(),
+        }
+    }
+}
+
+impl From<Refusal> for Denied {
+    ghost from_gives = { λ x y. y ≡ Call x };
+
+    fn from(refusal: Refusal) -> Denied {
+        Denied::Call(refusal)
+    }
+}
+
+impl From<NoShape> for Denied {
+    ghost from_gives = { λ _ y. y ≡ Call R.NoShape };
+
+    fn from(_refusal: NoShape) -> Denied {
+        Denied::Call(Refusal::NoShape)
+    }
+}
+
+impl From<TextFault> for Denied {
+    ghost from_gives = { λ x y. y ≡ Text x };
+
+    fn from(fault: TextFault) -> Denied {
+        Denied::Text(fault)
+    }
+}
+
+impl From<Unfit> for Denied {
+    ghost from_gives = { λ _ y. y ≡ Text Metrics };
+
+    fn from(unfit: Unfit) -> Denied {
+        Denied::Text(unfit.into())
+    }
+}
+
+// What a line is answered, or why it is refused.
+pub type Answer = Result<Reply, Denied>;
 
 // A line that is printed.
 #[derive(Clone, Copy)]
 pub enum Row {
     // An answer, and the open line that its call left.
-    Answer(Reply, Option<LineBox>),
+    Answer(Answer, Option<LineBox>),
     // At the end: each box of the list, and what they come to.
     Box(BoxRecord),
     Total(Totals),
 }
 
-// Why a flow stopped, if it did.
-#[derive(Clone, Copy)]
-pub struct Stop(pub Option<Refusal>);
-
-// The open line, if there is one.
-#[derive(Clone, Copy)]
-pub struct Open(pub Option<LineBox>);
-
-// The name of a side.
-#[derive(Clone, Copy)]
-pub struct Named(pub Side);
-
-impl fmt::Display for Stop {
-    ghost output = { λ x. Some (stop_words x.0) };
+impl fmt::Display for Denied {
+    ghost output = { λ x. Some (refused_words (denied_number x)) };
 
     fn fmt<W: fmt::Write>(&self, f: &mut fmt::Formatter<W>) -> fmt::Result {
-        match self.0 {
-            None => Ok(()),
-            Some(refusal) => {
-                let cause = refusal.number();
-                write!(f, " refused {cause}")
-            }
-        }
-    }
-}
-
-impl fmt::Display for Open {
-    ghost output = { λ x. Some (open_words x.0) };
-
-    fn fmt<W: fmt::Write>(&self, f: &mut fmt::Formatter<W>) -> fmt::Result {
-        match self.0 {
-            None => Ok(()),
-            Some(LineBox { x, y, width, words }) => write!(f, " open {x} {y} {width} {words}"),
-        }
-    }
-}
-
-impl fmt::Display for Named {
-    ghost output = { λ x. Some (side_word x.0) };
-
-    fn fmt<W: fmt::Write>(&self, f: &mut fmt::Formatter<W>) -> fmt::Result {
-        match self.0 {
-            Side::Left => write!(f, "left"),
-            Side::Right => write!(f, "right"),
-        }
+        let cause = self.number();
+        write!(f, "refused {cause}")
     }
 }
 
@@ -90,15 +107,20 @@ impl fmt::Display for Reply {
     ghost output = { λ x. Some (reply_words x) };
 
     fn fmt<W: fmt::Write>(&self, f: &mut fmt::Formatter<W>) -> fmt::Result {
-        match self {
+        match *self {
             Reply::Sheet => write!(f, "sheet"),
             Reply::Metric => write!(f, "metric"),
             Reply::Opened(number) => write!(f, "opened {number}"),
             Reply::Panel(Place { x, y }) => write!(f, "panel {x} {y}"),
-            Reply::Flowed(flowed) => {
-                let set = flowed.set;
-                let stop = Stop(flowed.stopped);
-                write!(f, "flowed {set}{stop}")
+            Reply::Flowed(Flowed { set, stopped: None }) => write!(f, "flowed {set}"),
+            Reply::Flowed(
+                Flowed {
+                    set,
+                    stopped: Some(refusal),
+                },
+            ) => {
+                let why = Denied::Call(refusal);
+                write!(f, "flowed {set} {why}")
             }
             Reply::Ended => write!(f, "ended"),
             Reply::Totals(
@@ -108,14 +130,6 @@ impl fmt::Display for Reply {
                     words,
                 },
             ) => write!(f, "totals {panels} {lines} {words}"),
-            Reply::Refused(refusal) => {
-                let cause = refusal.number();
-                write!(f, "refused {cause}")
-            }
-            Reply::Unmeasured(fault) => {
-                let cause = fault.cause();
-                write!(f, "refused {cause}")
-            }
             Reply::Skipped => write!(f, "skipped"),
         }
     }
@@ -126,34 +140,18 @@ impl fmt::Display for Row {
 
     fn fmt<W: fmt::Write>(&self, f: &mut fmt::Formatter<W>) -> fmt::Result {
         match *self {
-            Row::Answer(reply, line) => {
-                let open = Open(line);
-                write!(f, "{reply}{open}\n")
+            Row::Answer(answer, line) => {
+                match answer {
+                    Ok(reply) => write!(f, "{reply}")?,
+                    Err(denied) => write!(f, "{denied}")?,
+                }
+                if let Some(LineBox { x, y, width, words }) = line {
+                    write!(f, " open {x} {y} {width} {words}")?;
+                }
+                write!(f, "\n")
             }
-            Row::Box(
-                BoxRecord::Panel(
-                    PanelBox {
-                        side,
-                        x,
-                        y,
-                        width,
-                        height,
-                    },
-                ),
-            ) => {
-                let named = Named(side);
-                write!(f, "panel {named} {x} {y} {width} {height}\n")
-            }
-            Row::Box(BoxRecord::Line(LineBox { x, y, width, words })) => {
-                write!(f, "line {x} {y} {width} {words}\n")
-            }
-            Row::Total(
-                Totals {
-                    panels,
-                    lines,
-                    words,
-                },
-            ) => write!(f, "total {panels} {lines} {words}\n"),
+            Row::Box(record) => write!(f, "{record}\n"),
+            Row::Total(totals) => write!(f, "{totals}\n"),
         }
     }
 }

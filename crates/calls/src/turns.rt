@@ -1,24 +1,25 @@
 // The calls that lines ask for, with the slip in hand.
-ghost use Rattle.std.specs.Prelude.{◌≡◌, length, Some};
+ghost use Rattle.std.specs.Prelude.{◌≡◌, length, Some, None, OnErr};
 ghost use Rattle.shapes.specs.Made.{answered};
 ghost use Rattle.shapes.specs.Box.{make_box};
 ghost use Rattle.shapes.specs.Staircase.{make_stairs};
+ghost use Rattle.shapes.specs.Steps.{steps_in};
 ghost use Rattle.text.specs.Fault.{text_fault};
 ghost use Rattle.text.specs.Measure.{space_byte};
 ghost use Rattle.rules.specs.Runs.{ends, ended};
 ghost use Rattle.sheet.specs.Sheets.{open_number, Tells};
-ghost use Rattle.calls.specs.Hands.{InHand};
-ghost use Rattle.calls.specs.Panels.{steps_in};
-ghost use Rattle.calls.specs.Scales.{advances_of, scale_advances};
+ghost use Rattle.calls.specs.Scales.{advances_of};
 ghost use Rattle.calls.specs.Turns.{Opens, Places, Flows, Ends};
 
-use crate::asks::{Ask, Metric, Opening, Passage, PlainPanel, StairsPanel};
+use crate::asks::{Ask, Opening, Passage, PlainPanel, StairsPanel};
+use crate::hands::Hand;
 use crate::reading::read;
-use crate::replies::{Reply, Row};
-use crate::scales::{Scale, made};
+use crate::replies::{Answer, Reply, Row};
 use lexer::lines::Line;
 use metrics::advances::Metrics;
 use rules::refusals::Refusal;
+use scales::Scale;
+use scales::headings::MetricLine;
 use shapes::orders::Order;
 use shapes::plain::Plain;
 use shapes::sides::{Clear, Side};
@@ -26,81 +27,7 @@ use shapes::stairs::Stairs;
 use shapes::{NoShape, Shape};
 use sheet::sheet::Sheet;
 use sheet::slips::Slip;
-use text::{Run, TextFault, Word, fault, measure};
-
-// What is kept from line to line, beside the sheet: the slip of the open paragraph, if the script opened one and has not
-// ended it, how many it opened, and the metrics that texts are measured by.
-pub struct Hand {
-    pub slip: Option<Slip>,
-    pub opened: u32,
-    pub scale: Scale,
-}
-
-// A metrics that cannot be made leaves the one before it.
-fn set_metric(hand: Hand, metric: Metric) -> (Reply, Hand)
-    ensures { result.1.slip ≡ hand.slip }
-{
-    let Hand {
-        slip,
-        opened,
-        scale,
-    } = hand;
-    match made(metric) {
-        Ok(other) => (
-            Reply::Metric,
-            Hand {
-                slip,
-                opened,
-                scale: other,
-            },
-        ),
-        Err(_) => (
-            Reply::Unmeasured(TextFault::Metrics),
-            Hand {
-                slip,
-                opened,
-                scale,
-            },
-        ),
-    }
-}
-
-// A sheet with an open paragraph opens no other, so that there is never a second slip.
-fn open(sheet: &mut Sheet<'_>, hand: Hand, opening: Opening) -> (Reply, Hand)
-    requires { InHand hand.slip sheet.old }
-    ensures hand { InHand result.1.slip sheet.new }
-    ensures told { Opens opening.margins opening.clear result.0 result.1.slip sheet.old sheet.new }
-{
-    let Hand {
-        slip,
-        opened,
-        scale,
-    } = hand;
-    match sheet.open(opening.margins, opening.clear) {
-        Err(refusal) => (
-            Reply::Refused(refusal),
-            Hand {
-                slip,
-                opened,
-                scale,
-            },
-        ),
-        Ok(new) => match slip {
-            None => {
-                let number = opened.saturating_add(1);
-                (
-                    Reply::Opened(number),
-                    Hand {
-                        slip: Some(new),
-                        opened: number,
-                        scale,
-                    },
-                )
-            }
-            Some(_) => unreachable(),
-        },
-    }
-}
+use text::{Run, Word, fault, measure};
 
 // Places a panel of this shape, if the numbers made one.
 fn place<S: Shape + Drop>(
@@ -108,20 +35,15 @@ fn place<S: Shape + Drop>(
     shape: Result<S, NoShape>,
     side: Side,
     clear: Clear,
-) -> Reply
+) -> Answer
     ensures number { open_number sheet.new ≡ open_number sheet.old }
     ensures told { Places side clear (answered S.model shape) result sheet.old sheet.new }
 {
-    let Ok(shape) = shape else {
-        return Reply::Refused(Refusal::NoShape);
-    };
-    match sheet.panel(Order { shape, side, clear }) {
-        Ok(place) => Reply::Panel(place),
-        Err(refusal) => Reply::Refused(refusal),
-    }
+    let shape = shape?;
+    Ok(Reply::Panel(sheet.panel(Order { shape, side, clear })?))
 }
 
-fn plain(sheet: &mut Sheet<'_>, panel: PlainPanel) -> Reply
+fn plain(sheet: &mut Sheet<'_>, panel: PlainPanel) -> Answer
     ensures number { open_number sheet.new ≡ open_number sheet.old }
     ensures told { Places panel.side panel.clear (make_box panel.width panel.height) result sheet.old sheet.new }
 {
@@ -129,13 +51,11 @@ fn plain(sheet: &mut Sheet<'_>, panel: PlainPanel) -> Reply
     place(sheet, shape, panel.side, panel.clear)
 }
 
-fn stairs(sheet: &mut Sheet<'_>, panel: StairsPanel) -> Reply
+fn stairs(sheet: &mut Sheet<'_>, panel: StairsPanel) -> Answer
     ensures number { open_number sheet.new ≡ open_number sheet.old }
-    ensures told { Places panel.side panel.clear (make_stairs panel.width (steps_in panel)) result sheet.old sheet.new }
+    ensures told { Places panel.side panel.clear (make_stairs panel.width (steps_in panel.steps)) result sheet.old sheet.new }
 {
-    let steps = panel.steps;
-    let count = usize::from(panel.count).min(steps.len());
-    let shape = Stairs::new(u32::from(panel.width), &steps[0..count]);
+    let shape = Stairs::new(u32::from(panel.width), panel.steps.as_slice());
     place(sheet, shape, panel.side, panel.clear)
 }
 
@@ -146,31 +66,15 @@ fn flow<M: Metrics>(
     passage: Passage<'_>,
     words: &mut [Word],
     runs: &mut [Run],
-) -> Reply
+) -> Answer
     ensures number { open_number sheet.new ≡ open_number sheet.old }
     ensures told { Flows (text_fault passage.entry.bytes.now (length words.old) (length runs.old)) (advances_of (M.advances metrics.now) passage.entry.bytes.now) ((M.advances metrics.now) space_byte) passage.entry.from result sheet.old sheet.new }
 {
     if let Some(fault) = fault(passage.bytes, words, runs) {
-        return Reply::Unmeasured(fault);
+        return Err(fault.into());
     }
     let text = measure(metrics, passage.bytes, words, runs);
-    Reply::Flowed(sheet.flow(&text, usize::from(passage.from)))
-}
-
-fn flow_by(
-    sheet: &mut Sheet<'_>,
-    scale: Scale,
-    passage: Passage<'_>,
-    words: &mut [Word],
-    runs: &mut [Run],
-) -> Reply
-    ensures number { open_number sheet.new ≡ open_number sheet.old }
-    ensures told { Flows (text_fault passage.entry.bytes.now (length words.old) (length runs.old)) (advances_of (scale_advances scale) passage.entry.bytes.now) ((scale_advances scale) space_byte) passage.entry.from result sheet.old sheet.new }
-{
-    match scale {
-        Scale::Cell(cell) => flow(sheet, &cell, passage, words, runs),
-        Scale::Table(table) => flow(sheet, &table, passage, words, runs),
-    }
+    Ok(Reply::Flowed(sheet.flow(&text, usize::from(passage.from))))
 }
 
 // Ends the open paragraph with its own slip, which is never refused.
@@ -184,87 +88,70 @@ fn spend(sheet: &mut Sheet<'_>, own: Slip)
     }
 }
 
-// Where no slip is in hand, no call is made.
-fn end(sheet: &mut Sheet<'_>, slip: Option<Slip>) -> Reply
-    requires { InHand slip sheet.old }
-    ensures { Ends slip result sheet.old sheet.new }
-{
-    match slip {
-        None => Reply::Refused(Refusal::NoParagraph),
-        Some(own) => {
-            spend(sheet, own);
-            Reply::Ended
-        }
+impl<'a> Hand<'a> {
+    // A metrics that cannot be made leaves the one before it.
+    fn set_metric(&mut self, asked: MetricLine) -> Answer
+        ensures sheet { self.new.sheet ≡ self.old.sheet }
+        ensures slip { self.new.slip ≡ self.old.slip }
+        ensures scale { OnErr result (self.new.scale ≡ self.old.scale) }
+    {
+        self.scale = Scale::new(asked.family, asked.number)?;
+        Ok(Reply::Metric)
     }
-}
 
-// Ends the paragraph that is still open at the end of the script: a slip has to be spent.
-pub(crate) fn finish(sheet: &mut Sheet<'_>, hand: Hand)
-    requires { InHand hand.slip sheet.old }
-{
-    let Hand {
-        slip,
-        opened: _,
-        scale: _,
-    } = hand;
-    if let Some(left) = slip {
-        spend(sheet, left);
+    // A sheet with an open paragraph opens no other, so that there is never a second slip.
+    fn open(&mut self, opening: Opening) -> Answer
+        ensures { Opens opening.margins opening.clear result self.new.slip self.old.sheet self.new.sheet }
+    {
+        let slip = self.sheet.open(opening.margins, opening.clear)?;
+        match self.slip.replace(slip) {
+            None => {}
+            Some(_) => unreachable(),
+        }
+        self.opened = self.opened.saturating_add(1);
+        Ok(Reply::Opened(self.opened))
     }
-}
 
-// What a line is answered, and what is in hand after it. A line of no form, or a second `sheet`, calls nothing. The
-// answers of the calls on the sheet show the line that is open after them.
-pub(crate) fn turn(
-    sheet: &mut Sheet<'_>,
-    hand: Hand,
-    line: Line<'_>,
-    words: &mut [Word],
-    runs: &mut [Run],
-) -> (Row, Hand)
-    requires { InHand hand.slip sheet.old }
-    ensures { InHand result.1.slip sheet.new }
-{
-    let Some(ask) = read(line) else {
-        return (Row::Answer(Reply::Skipped, None), hand);
-    };
-    match ask {
-        Ask::Sheet(_) => (Row::Answer(Reply::Skipped, None), hand),
-        Ask::Metric(metric) => {
-            let (reply, hand) = set_metric(hand, metric);
-            (Row::Answer(reply, None), hand)
+    // Where no slip is in hand, no call is made.
+    fn end(&mut self) -> Answer
+        ensures hand { self.new.slip ≡ None }
+        ensures told { Ends self.old.slip result self.old.sheet self.new.sheet }
+    {
+        let own = self.slip.take().ok_or(Refusal::NoParagraph)?;
+        spend(&mut self.sheet, own);
+        Ok(Reply::Ended)
+    }
+
+    // The sheet, after the paragraph that is still open at the end of the script is ended: a slip has to be spent.
+    pub(crate) fn finish(self) -> Sheet<'a> {
+        let Hand {
+            mut sheet,
+            slip,
+            opened: _,
+            scale: _,
+        } = self;
+        if let Some(left) = slip {
+            spend(&mut sheet, left);
         }
-        Ask::Open(opening) => {
-            let (reply, hand) = open(sheet, hand, opening);
-            (Row::Answer(reply, sheet.open_line()), hand)
-        }
-        Ask::Plain(panel) => {
-            let reply = plain(sheet, panel);
-            (Row::Answer(reply, sheet.open_line()), hand)
-        }
-        Ask::Stairs(panel) => {
-            let reply = stairs(sheet, panel);
-            (Row::Answer(reply, sheet.open_line()), hand)
-        }
-        Ask::Text(passage) => {
-            let reply = flow_by(sheet, hand.scale, passage, words, runs);
-            (Row::Answer(reply, sheet.open_line()), hand)
-        }
-        Ask::End => {
-            let Hand {
-                slip,
-                opened,
-                scale,
-            } = hand;
-            let reply = end(sheet, slip);
-            (
-                Row::Answer(reply, sheet.open_line()),
-                Hand {
-                    slip: None,
-                    opened,
-                    scale,
-                },
-            )
-        }
-        Ask::Totals => (Row::Answer(Reply::Totals(sheet.totals()), None), hand),
+        sheet
+    }
+
+    // What a line is answered. A line of no form, or a second `sheet`, calls nothing. The answers of the calls on the sheet
+    // show the line that is open after them.
+    pub(crate) fn turn(&mut self, line: Line<'_>, words: &mut [Word], runs: &mut [Run]) -> Row {
+        let Some(ask) = read(line) else {
+            return Row::Answer(Ok(Reply::Skipped), None);
+        };
+        let answer = match ask {
+            Ask::Sheet(_) => return Row::Answer(Ok(Reply::Skipped), None),
+            Ask::Metric(asked) => return Row::Answer(self.set_metric(asked), None),
+            Ask::Totals => return Row::Answer(Ok(Reply::Totals(self.sheet.totals())), None),
+            Ask::Open(opening) => self.open(opening),
+            Ask::Plain(panel) => plain(&mut self.sheet, panel),
+            Ask::Stairs(panel) => stairs(&mut self.sheet, panel),
+            Ask::Text(passage) => flow(&mut self.sheet, &self.scale, passage, words, runs),
+            Ask::End => self.end(),
+        };
+        Row::Answer(answer, self.sheet.open_line())
     }
 }

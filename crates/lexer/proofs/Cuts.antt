@@ -1,13 +1,12 @@
 -- The first line of a file, cut off where the run up to the line end stops. Assumes nothing.
-use Rattle.std.proofs.Common.{◌≡◌, ℕ, suc, ◌+◌, ◌-◌, ◌<◌, Bool, true, false, cond, not, eqb, ltb, List, [], ◌∷◌, length, take, drop, sym, refl, ap, ◌∙◌, ⊎_elim, one-add, arith}
+use Rattle.std.proofs.Common.{◌≡◌, ℕ, suc, ◌+◌, ◌<◌, Bool, true, false, cond, not, eqb, ltb, List, [], ◌∷◌, length, take, drop, sym, refl, ap, ◌∙◌, ⊎_elim, one-add, arith}
 use Rattle.std.specs.List.{prefix_len}
-use Rattle.std.proofs.lemmas.List.{take_rest, drop-drop, length-drop}
 use Rattle.std.proofs.lemmas.Bool.{lt-ltb, le-ltb, cases_lt}
 use Rattle.lexer.specs.Bytes.{line_end, other_than}
 use Rattle.lexer.specs.Lines.{FileLine, file_line, file_lines, with_byte}
 
 -- the line of the first n bytes, ended where bytes follow, and the lines after its end
-abbrev pub cut_at : ℕ → List ℕ → List FileLine
+abbrev cut_at : ℕ → List ℕ → List FileLine
 cut_at n bs = file_line (take n bs) (ltb n (length bs)) ∷ file_lines (drop (n + 1) bs)
 
 abbrev pub line_length : List ℕ → ℕ
@@ -31,18 +30,11 @@ front b bs before =
     elim (eqb b line_end) as (λ (v : Bool). cond v (file_line [] true ∷ file_lines bs) (with_byte b (file_lines bs)) ≡ cut_at (cond (not v) (1 + line_length bs) 0) (b ∷ bs))
     [ true ↦ ap (λ t. file_line [] t ∷ file_lines bs) (sym (lt-ltb 0 (suc (length bs)) (omega arith))) | false ↦ before ]
 
-pub file_lines_cut : (bs : List ℕ) → 0 < length bs → file_lines bs ≡ cut_at (line_length bs) bs
+file_lines_cut : (bs : List ℕ) → 0 < length bs → file_lines bs ≡ cut_at (line_length bs) bs
 file_lines_cut [] h = absurd (omega arith)
 file_lines_cut (b ∷ []) h = front b [] refl
 file_lines_cut (b ∷ c ∷ cs) h = front b (c ∷ cs) (ap (with_byte b) (file_lines_cut (c ∷ cs) (omega arith)) ∙ longer b (c ∷ cs) (line_length (c ∷ cs)))
 
--- the line that begins at place p, where rest is what the file has from p on
-pub line_at : (file : List ℕ) (p n : ℕ) (rest : List ℕ) → rest ≡ take (length file - p) (drop p file) → p < length file → n ≡ line_length rest → file_lines (drop p file) ≡ file_line (take n rest) (ltb n (length rest)) ∷ file_lines (drop (p + (n + 1)) file)
-line_at file p n rest part h e =
-    let whole : drop p file ≡ rest = sym (part ∙ take_rest file p) in
-    let some = length-drop p file in
-    ap file_lines whole
-    ∙ file_lines_cut rest (omega (arith, ap length whole))
-    ∙ ap (λ k. cut_at k rest) (sym e)
-    ∙ ap (λ bs. file_line (take n rest) (ltb n (length rest)) ∷ file_lines (drop (n + 1) bs)) (sym whole)
-    ∙ ap (λ bs. file_line (take n rest) (ltb n (length rest)) ∷ file_lines bs) (drop-drop (n + 1) p file)
+-- the first line, of n bytes, and the lines of what is left behind its end
+pub first_line : (bs rest : List ℕ) (n : ℕ) → 0 < length bs → n ≡ line_length bs → rest ≡ drop (n + 1) bs → file_lines bs ≡ file_line (take n bs) (ltb n (length bs)) ∷ file_lines rest
+first_line bs rest n some e f = file_lines_cut bs some ∙ ap (λ k. cut_at k bs) (sym e) ∙ ap (λ ls. file_line (take n bs) (ltb n (length bs)) ∷ file_lines ls) (sym f)

@@ -4,4 +4,3 @@ pub mod Digits
 pub mod Lining
 pub mod Places
 pub mod Printed
-pub mod Runs

@@ -17,15 +17,14 @@ seen None = None
 seen (Some r) = Some r.now
 
 abbrev pub field_at : Fields → Option (List ℕ)
-field_at s = field s.line.now s.place
+field_at s = field s.line.bytes.now s.place
 
 abbrev pub read_at : {A : Type 0} → Fields → (List ℕ → Option A) → Cause → Result A Fault
-read_at s w c = reading (field_kind w c) s.line.now s.place
+read_at s w c = reading (field_kind w c) s.line.bytes.now s.place
 
 abbrev pub ended_at : Fields → Result (Unit {0}) Fault
-ended_at s = ending s.ended s.line.now s.place
+ended_at s = ending s.line.ended s.line.bytes.now s.place
 
 pub record Stepped (s t : Fields) : Type 0 where
   pub line : t.line ≡ s.line
-  pub ended : t.ended ≡ s.ended
-  pub place : t.place ≡ next s.line.now s.place
+  pub place : t.place ≡ next s.line.bytes.now s.place

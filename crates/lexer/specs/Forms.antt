@@ -8,7 +8,8 @@
 --     word w                  just the bytes w
 --     reading k line p        the worth of the field at p; Field at p where it is missing, k's cause at p where it is worth nothing
 --     take k line p rest      the field at p, and then rest of its worth and the next place
---     ending ended line p     no field is left at p, else Field at p; and the line is ended, else Field at its length
+--     closing ended line      the line is ended, else Field at its length
+--     ending ended line p     no field is left at p, else Field at p; and the line is ended
 --     finish ended line p a   the line ends at p, and means a
 use Rattle.std.specs.Prelude.{ℕ, Bool, cond, ◌&&◌, List, length, Some, None, Ok, Err, Option, Result, nat_le}
 use Rattle.std.specs.Str.{bytes_eq}
@@ -59,8 +60,11 @@ reading k line p = after (some (field line p) (fault Field p)) (λ bs. some (k.w
 abbrev pub take : {A B : Type 0} → FieldKind A → List ℕ → ℕ → (A → ℕ → Result B Fault) → Result B Fault
 take k line p rest = after (reading k line p) (λ a. rest a (next line p))
 
+abbrev pub closing : Bool → List ℕ → Result (Unit {0}) Fault
+closing ended line = cond ended (Ok tt) (Err (fault Field (length line)))
+
 abbrev pub ending : Bool → List ℕ → ℕ → Result (Unit {0}) Fault
-ending ended line p = cond (nat_le p (length line)) (Err (fault Field p)) (cond ended (Ok tt) (Err (fault Field (length line))))
+ending ended line p = cond (nat_le p (length line)) (Err (fault Field p)) (closing ended line)
 
 abbrev pub finish : {A : Type 0} → Bool → List ℕ → ℕ → A → Result A Fault
 finish ended line p a = after (ending ended line p) (λ _. Ok a)

@@ -1,8 +1,7 @@
 -- What a cursor over a file's lines has left. Assumes nothing.
 --     line_of l              the line that the code holds as l
 --     left s                 the lines from where the cursor s stands
---     Next before r after    the next of the lines before is r, and after it the lines after are left
-use Rattle.std.specs.Prelude.{◌≡◌, List, [], ◌∷◌, drop, Some, None, Option}
+use Rattle.std.specs.Prelude.{List}
 use Rattle.lexer.specs.declared.lines.Line.{Line}
 use Rattle.lexer.specs.declared.lines.Lines.{Lines}
 use Rattle.lexer.specs.Lines.{FileLine, file_line, file_lines}
@@ -11,8 +10,4 @@ abbrev pub line_of : Line → FileLine
 line_of l = file_line l.bytes.now l.ended
 
 abbrev pub left : Lines → List FileLine
-left s = file_lines (drop s.place s.file.now)
-
-abbrev pub Next : List FileLine → Option Line → List FileLine → Type 0
-Next before None after = (before ≡ []) × (after ≡ [])
-Next before (Some l) after = before ≡ line_of l ∷ after
+left s = file_lines s.rest.now

@@ -6,11 +6,11 @@ ghost use Rattle.lexer.specs.Causes.{cause_number};
 #[derive(Clone, Copy, PartialEq, Eq, Debug)]
 pub enum Cause {
     // It is not the keyword that belongs there.
-    Keyword,
+    Keyword = 8,
     // It is no number, or none of those that may stand there.
-    Number,
+    Number = 9,
     // It is missing or one too many, or the line's end is missing.
-    Field,
+    Field = 10,
 }
 
 impl Cause {
@@ -18,11 +18,7 @@ impl Cause {
     pub fn number(self) -> u8
         ensures { result ≡ cause_number self }
     {
-        match self {
-            Cause::Keyword => 8,
-            Cause::Number => 9,
-            Cause::Field => 10,
-        }
+        self as u8
     }
 }
 

@@ -12,23 +12,17 @@ use crate::marks::{Mark, run};
 // where no field is left.
 #[derive(Drop)]
 pub struct Fields<'a> {
-    line: &'a [u8],
-    ended: bool,
+    line: Line<'a>,
     place: usize,
 }
 
 impl<'a> Fields<'a> {
     // All fields of a line.
     pub fn new(line: Line<'a>) -> Fields<'a>
-        ensures line { result.line.now ≡ line.entry.bytes.now }
-        ensures ended { result.ended ≡ line.entry.ended }
+        ensures line { result.line ≡ line.entry }
         ensures place { result.place ≡ 0 }
     {
-        Fields {
-            line: line.bytes,
-            ended: line.ended,
-            place: 0,
-        }
+        Fields { line, place: 0 }
     }
 
     // The refusal of the field at hand for this cause.
@@ -41,15 +35,13 @@ impl<'a> Fields<'a> {
         }
     }
 
-    // The field at hand, or nothing where it is missing or empty; the cursor moves past it.
+    // The field at hand, or nothing where it is missing or empty; the cursor moves past it. The cursor is no `Iterator`: in
+    // `fields.take(..)` an iterator's own `take` would stand before the one here.
     pub fn next(&mut self) -> Option<&'a [u8]>
         ensures value { seen result ≡ field_at self.old }
         ensures stepped { Stepped self.old self.new }
     {
-        if self.place > self.line.len() {
-            return None;
-        }
-        let rest = &self.line[self.place..];
+        let rest = self.line.bytes.get(self.place..)?;
         let width = run(rest, Mark::Space);
         let field = &rest[..width];
         if field.is_empty() {
@@ -79,16 +71,10 @@ impl<'a> Fields<'a> {
     pub fn end(&self) -> Result<(), Fault>
         ensures { result ≡ ended_at self.now }
     {
-        if self.place <= self.line.len() {
+        if self.place <= self.line.bytes.len() {
             return Err(self.fault(Cause::Field));
         }
-        if !self.ended {
-            return Err(Fault {
-                cause: Cause::Field,
-                place: self.line.len(),
-            });
-        }
-        Ok(())
+        self.line.closed()
     }
 }
 

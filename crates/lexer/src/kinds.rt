@@ -1,6 +1,5 @@
 // Kinds of field: what the bytes of a field are worth.
 ghost use Rattle.std.specs.Prelude.{◌≡◌, ℕ, List, Option};
-ghost use Rattle.std.specs.Str.{bytes_eq};
 ghost use Rattle.lexer.specs.declared.faults.Cause.{Cause};
 ghost use Rattle.lexer.specs.Forms.{a_number, number_within, word};
 
@@ -62,12 +61,7 @@ impl Kind for Within {
     ghost fails = { λ k. (number_within k.low k.high).fails };
 
     fn value(&self, bytes: &[u8]) -> Option<u16> {
-        let value = number(bytes)?;
-        if self.low <= value && value <= self.high {
-            Some(value)
-        } else {
-            None
-        }
+        number(bytes).filter(|value| self.low <= *value && *value <= self.high)
     }
 
     fn cause(&self) -> Cause {
@@ -89,21 +83,10 @@ impl<'w> Kind for Word<'w> {
     ghost fails = { λ k. (word k.text.now).fails };
 
     fn value(&self, bytes: &[u8]) -> Option<()> {
-        if spells(bytes, self.text) {
-            Some(())
-        } else {
-            None
-        }
+        (bytes == self.text).then_some(())
     }
 
     fn cause(&self) -> Cause {
         Cause::Keyword
     }
-}
-
-// Whether the bytes of a field are this keyword and no more, for kinds that tell keywords apart.
-pub fn spells(bytes: &[u8], keyword: &[u8]) -> bool
-    ensures { result ≡ bytes_eq bytes.now keyword.now }
-{
-    bytes == keyword
 }

@@ -1,8 +1,11 @@
 // The lines of a file, one after another.
 ghost use Rattle.std.specs.Prelude.{◌≡◌};
+ghost use Rattle.std.specs.Iterator.{YieldsFirstBy, item_count};
+ghost use Rattle.lexer.specs.Forms.{closing};
 ghost use Rattle.lexer.specs.Lines.{file_lines, LinesStand};
-ghost use Rattle.lexer.specs.LinesLeft.{left, Next};
+ghost use Rattle.lexer.specs.LinesLeft.{left, line_of};
 
+use crate::faults::{Cause, Fault};
 use crate::marks::{Mark, run};
 
 // A line without the byte that ends it, and whether that byte is there.
@@ -12,11 +15,25 @@ pub struct Line<'a> {
     pub ended: bool,
 }
 
-// The lines of a file from a place on.
+impl<'a> Line<'a> {
+    // The line has its line end, else the fault lies at the line's length.
+    pub fn closed(self) -> Result<(), Fault>
+        ensures { result ≡ closing self.entry.ended self.entry.bytes.now }
+    {
+        if !self.ended {
+            return Err(Fault {
+                cause: Cause::Field,
+                place: self.bytes.len(),
+            });
+        }
+        Ok(())
+    }
+}
+
+// The lines of a file from a place on, as the bytes of the file from there.
 #[derive(Drop)]
 pub struct Lines<'a> {
-    file: &'a [u8],
-    place: usize,
+    rest: &'a [u8],
 }
 
 impl<'a> Lines<'a> {
@@ -24,24 +41,30 @@ impl<'a> Lines<'a> {
     pub fn new(file: &'a [u8]) -> Lines<'a>
         ensures { left result ≡ file_lines file.now }
     {
-        Lines { file, place: 0 }
+        Lines { rest: file }
     }
+}
+
+impl<'a> Iterator for Lines<'a> {
+    type Item = Line<'a>;
+
+    ghost next_gives = { YieldsFirstBy line_of left };
+
+    ghost remaining = { item_count left };
 
     // The next line, or nothing at the file's end.
-    pub fn next(&mut self) -> Option<Line<'a>>
-        ensures { Next (left self.old) result (left self.new) }
-    {
-        if self.place >= self.file.len() {
+    fn next(&mut self) -> Option<Line<'a>> {
+        if self.rest.is_empty() {
             return None;
         }
-        let rest = &self.file[self.place..];
-        let length = run(rest, Mark::LineEnd);
-        let ended = length < rest.len();
-        self.place += length + 1;
-        Some(Line {
-            bytes: &rest[..length],
-            ended,
-        })
+        let length = run(self.rest, Mark::LineEnd);
+        let ended = length < self.rest.len();
+        let (bytes, behind) = self.rest.split_at(length);
+        self.rest = match behind {
+            [_, rest @ ..] => rest,
+            [] => behind,
+        };
+        Some(Line { bytes, ended })
     }
 }
 

@@ -28,10 +28,6 @@ pub(crate) fn run(bytes: &[u8], mark: Mark) -> usize
     ensures value { result ≡ prefix_len (other_than (code mark)) bytes.now }
     ensures within { result ≤ length bytes.now }
 {
-    for (i, b) in bytes.iter().enumerate() {
-        if is_mark(mark, *b) {
-            return i;
-        }
-    }
-    bytes.len()
+    let mark_at = bytes.iter().position(|byte| is_mark(mark, *byte));
+    mark_at.unwrap_or(bytes.len())
 }

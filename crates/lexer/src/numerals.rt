@@ -2,10 +2,8 @@
 ghost use Rattle.std.specs.Prelude.{◌≡◌, ◌≤◌, length};
 ghost use Rattle.lexer.specs.Numerals.{numeral, reads, most_digits, NumeralsStand};
 
-// The most digits that a number has, and the largest number.
+// The most digits that a number has.
 const MOST_DIGITS: usize = 5;
-
-const LARGEST: u32 = 65535;
 
 // The number that digits write, or nothing where a byte is no digit.
 fn digits(bytes: &[u8]) -> Option<u32>
@@ -23,20 +21,15 @@ fn digits(bytes: &[u8]) -> Option<u32>
 }
 
 // The number that these bytes write: 1 to 5 digits without a leading zero, at most 65,535.
+#[tactic(auto, unfolding(crate::specs::Numerals::numeral))]
 pub fn number(bytes: &[u8]) -> Option<u16>
     ensures { result ≡ numeral bytes.now }
 {
-    if bytes.is_empty() || bytes.len() > MOST_DIGITS {
-        return None;
+    match bytes {
+        [] | [b'0', _, ..] => None,
+        _ if bytes.len() > MOST_DIGITS => None,
+        _ => u16::try_from(digits(bytes)?).ok(),
     }
-    if bytes[0] == b'0' && bytes.len() > 1 {
-        return None;
-    }
-    let value = digits(bytes)?;
-    if value > LARGEST {
-        return None;
-    }
-    Some(value as u16)
 }
 
 // A field writes a number exactly where it is what is printed of one up to 65,535.

@@ -1,13 +1,11 @@
 -- The steps of a flight, as a loop takes them. Assumes nothing.
-use Rattle.std.proofs.Common.{◌≡◌, ℕ, suc, ◌+◌, ◌-◌, ◌<◌, List, [], ◌∷◌, ◌++◌, length, take as front, set, Ok, Result, sym, ap, ◌∙◌, arith, length-set}
-use Rattle.std.proofs.lemmas.List.{take_more_set}
+use Rattle.std.proofs.Common.{◌≡◌, ℕ, suc, ◌+◌, ◌-◌, ◌<◌, List, [], ◌∷◌, ◌++◌, length, Ok, Result, sym, ap, ◌∙◌, arith, length-append}
 use Rattle.lexer.specs.declared.faults.Fault.{Fault}
 use Rattle.lexer.specs.declared.fields.Fields.{Fields}
 use Rattle.lexer.specs.Fields.{next}
 use Rattle.lexer.specs.FieldsLeft.{Stepped}
 use Rattle.lexer.specs.Forms.{after, a_number, reading, take}
 use Rattle.shapes.specs.declared.stairs.Step.{Step}
-use Rattle.shapes.specs.Staircase.{most_steps}
 use Rattle.lines.specs.Flights.{steps_from}
 
 abbrev pub step : ℕ → ℕ → Step
@@ -15,10 +13,9 @@ step r e = record { rows = r; extent = e }
 
 -- i of k steps are taken, the cursor s has become t, and what is left gives what all of them give
 pub record Sofar (k i : ℕ) (s t : Fields) (ss : List Step) : Type 0 where
-  pub room : length ss ≡ most_steps
+  pub many : length ss ≡ i
   pub line : t.line ≡ s.line
-  pub ended : t.ended ≡ s.ended
-  pub left : steps_from (k - i) t.line.now t.place (front i ss) ≡ steps_from k s.line.now s.place []
+  pub left : steps_from (k - i) t.line.bytes.now t.place ss ≡ steps_from k s.line.bytes.now s.place []
 
 module _ (line : List ℕ) (p k i : ℕ) (ss : List Step) (h : i < k) where
   steps_more : steps_from (k - i) line p ss ≡ take a_number line p (λ r q. take a_number line q (λ e s. steps_from (k - (i + 1)) line s (ss ++ (step r e ∷ []))))
@@ -31,20 +28,18 @@ module _ (line : List ℕ) (p k i : ℕ) (ss : List Step) (h : i < k) where
   step_with r o d e = ap (λ (x : Result ℕ Fault). after x (λ e. steps_from (k - (i + 1)) line (next line (next line p)) (ss ++ (step r e ∷ [])))) e ∙ rows_with (Ok r) d
 
 module _ (k i : ℕ) (s t : Fields) (ss : List Step) (sofar : Sofar k i s t ss) (h : i < k) where
-  module _ (u : Fields) (one : Stepped t u) (r : ℕ) (d : Ok r ≡ reading a_number t.line.now t.place) where
-    second : (o : Result ℕ Fault) → o ≡ reading a_number u.line.now u.place → o ≡ reading a_number t.line.now (next t.line.now t.place)
-    second o e = e ∙ (λ j. reading a_number (one.line j).now (one.place j))
+  module _ (u : Fields) (one : Stepped t u) (r : ℕ) (d : Ok r ≡ reading a_number t.line.bytes.now t.place) where
+    second : (o : Result ℕ Fault) → o ≡ reading a_number u.line.bytes.now u.place → o ≡ reading a_number t.line.bytes.now (next t.line.bytes.now t.place)
+    second o e = e ∙ (λ j. reading a_number (one.line j).bytes.now (one.place j))
 
-    pub step_good : (v : Fields) → Stepped u v → (x : ℕ) → Ok x ≡ reading a_number u.line.now u.place → i < most_steps → Sofar k (i + 1) s v (set ss i (step r x))
-    step_good v two x e few =
-        let place : v.place ≡ next t.line.now (next t.line.now t.place) = two.place ∙ (λ j. next (one.line j).now (one.place j)) in
+    pub step_good : (v : Fields) → Stepped u v → (x : ℕ) → Ok x ≡ reading a_number u.line.bytes.now u.place → (more : List Step) → more ≡ ss ++ (step r x ∷ []) → Sofar k (i + 1) s v more
+    step_good v two x e more taken =
+        let place : v.place ≡ next t.line.bytes.now (next t.line.bytes.now t.place) = two.place ∙ (λ j. next (one.line j).bytes.now (one.place j)) in
         let lines = two.line ∙ one.line in
-        let taken = take_more_set ss i (step r x) (let room = sofar.room in omega arith) in
         record {
-          room = length-set ss i (step r x) ∙ sofar.room;
+          many = ap length taken ∙ length-append ss (step r x ∷ []) ∙ ap (λ n. n + 1) sofar.many;
           line = lines ∙ sofar.line;
-          ended = two.ended ∙ one.ended ∙ sofar.ended;
-          left = (λ j. steps_from (k - (i + 1)) (lines j).now (place j) (taken j))
-              ∙ step_with t.line.now t.place k i (front i ss) h r (Ok x) d (second (Ok x) e)
+          left = (λ j. steps_from (k - (i + 1)) (lines j).bytes.now (place j) (taken j))
+              ∙ step_with t.line.bytes.now t.place k i ss h r (Ok x) d (second (Ok x) e)
               ∙ sofar.left;
         }

@@ -10,7 +10,7 @@ use Rattle.lexer.specs.declared.faults.Cause.TheVariants.{Field}
 use Rattle.lexer.specs.declared.faults.Fault.{Fault}
 use Rattle.lexer.specs.Bytes.{space, other_than}
 use Rattle.lexer.specs.Fields.{width, field, next}
-use Rattle.lexer.specs.Forms.{fault, after, some, reading}
+use Rattle.lexer.specs.Forms.{fault, after, some, reading, closing}
 use Rattle.lexer.specs.Lines.{FileLine, file_line}
 use Rattle.lines.specs.declared.names.ItemWord.{ItemWord}
 use Rattle.lines.specs.declared.names.ItemWord.TheVariants.{Text, Plain, Shaped}
@@ -61,7 +61,7 @@ module _ (line w : List ℕ) (e : field line 0 ≡ Some w) where
   }
 
 -- where a line begins with `text `, it is a text
-item_text : (n : ℕ) (rest : List ℕ) (e : Bool) → item_form n (file_line (codes "text " ++ rest) e) ≡ cond e (Ok (text rest)) (Err (fault Field (length (codes "text " ++ rest))))
+item_text : (n : ℕ) (rest : List ℕ) (e : Bool) → item_form n (file_line (codes "text " ++ rest) e) ≡ after (closing e (codes "text " ++ rest)) (λ _. Ok (text rest))
 unfolding field next
 item_text n rest e = cond-true _ _ _ (le-leb 5 (length (codes "text " ++ rest)) (omega arith))
 
@@ -73,12 +73,12 @@ module _ (n : ℕ) (l : FileLine) where
       (λ f5. absurd (let z : ◌≡◌ {A = ℕ} 0 1 = cc (e, cond-false (bytes_eq (front 5 l.bytes) (codes "text ")) (Some (drop 5 l.bytes)) None f5) in omega arith))
       (cases_Bool (bytes_eq (front 5 l.bytes) (codes "text ")))
 
-  pub text_there : (t : List ℕ) → Some t ≡ text_in l.bytes → item_form n l ≡ cond l.ended (Ok (text t)) (Err (fault Field (length l.bytes)))
+  pub text_there : (t : List ℕ) → Some t ≡ text_in l.bytes → item_form n l ≡ after (closing l.ended l.bytes) (λ _. Ok (text t))
   text_there t e =
       let whole = begins t e in
       ap (λ bs. item_form n (file_line bs l.ended)) whole
       ∙ item_text n t l.ended
-      ∙ ap (λ bs. cond l.ended (Ok (text t)) (Err (fault Field (length bs)))) (sym whole)
+      ∙ ap (λ bs. after (closing l.ended bs) (λ _. Ok (text t))) (sym whole)
 
 word_picked : (a b c : Bool) (e : Fault) → some (cond a (Some Text) (cond b (Some Plain) (cond c (Some Shaped) None))) e ≡ Ok Text → a ≡ true
 word_picked true b c e h = refl

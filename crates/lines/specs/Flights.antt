@@ -2,14 +2,16 @@
 --     Flight                  a width, and some steps
 --     steps_form l            what a line `steps K W` says, with K pairs ROWS EXTENT behind it, K 1 to 16
 --     steps_from k line p ss  the steps ss, then the k pairs from the place p on, and the place behind them
---     steps_said r            the flight that the code holds as r: the first of its steps, as many as it says
---     climbed k p r           k steps that the code holds as r, with the place p
-use Rattle.std.specs.Prelude.{ℕ, zero, suc, List, [], ◌∷◌, ◌++◌, take as front, Ok, Err, codes, Result}
+--     steps_said r            the flight that the code holds as r
+--     climbed p r             the steps that the code holds as r, with the place p
+use Rattle.std.specs.Prelude.{ℕ, zero, suc, List, [], ◌∷◌, ◌++◌, Ok, Err, codes, Result}
 use Rattle.lexer.specs.declared.faults.Fault.{Fault}
 use Rattle.lexer.specs.Forms.{after, word, a_number, number_within, take, finish}
 use Rattle.lexer.specs.Lines.{FileLine}
 use Rattle.shapes.specs.declared.stairs.Step.{Step}
+use Rattle.shapes.specs.declared.stairs.held.Steps.{Steps}
 use Rattle.shapes.specs.Staircase.{most_steps}
+use Rattle.shapes.specs.Steps.{steps_in}
 use Rattle.lines.specs.declared.flights.StepsLine.{StepsLine}
 
 pub record Flight : Type 0 where
@@ -37,9 +39,9 @@ steps_form l =
     (λ c. finish l.ended l.bytes c.place (record { width = w; steps = c.steps })))))
 
 abbrev pub steps_said : Result StepsLine Fault → Result Flight Fault
-steps_said (Ok s) = Ok (record { width = s.width; steps = front s.count s.steps })
+steps_said (Ok s) = Ok (record { width = s.width; steps = steps_in s.steps })
 steps_said (Err e) = Err e
 
-abbrev pub climbed : ℕ → ℕ → Result (List Step) Fault → Result Climb Fault
-climbed k p (Ok ss) = Ok (record { steps = front k ss; place = p })
-climbed k p (Err e) = Err e
+abbrev pub climbed : ℕ → Result Steps Fault → Result Climb Fault
+climbed p (Ok ss) = Ok (record { steps = steps_in ss; place = p })
+climbed p (Err e) = Err e

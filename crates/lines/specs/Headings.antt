@@ -1,13 +1,10 @@
--- The lines that say what sheet it is, field by field. Assumes nothing.
+-- The line that says what sheet it is, field by field. Assumes nothing.
 --     sheet_form l    what a line `sheet W H L` says: the sheet's width and height, and the height of its lines
---     metric_form l   `metric FAMILY NUMBER`: the family, and the advance of its cell or the size of its table
 use Rattle.std.specs.Prelude.{codes, Result}
 use Rattle.lexer.specs.declared.faults.Fault.{Fault}
 use Rattle.lexer.specs.Forms.{word, a_number, take, finish}
 use Rattle.lexer.specs.Lines.{FileLine}
 use Rattle.lines.specs.declared.headings.SheetLine.{SheetLine}
-use Rattle.lines.specs.declared.headings.MetricLine.{MetricLine}
-use Rattle.lines.specs.Names.{a_family}
 
 abbrev pub sheet_form : FileLine → Result SheetLine Fault
 sheet_form l =
@@ -16,10 +13,3 @@ sheet_form l =
     (λ w q. take a_number l.bytes q
     (λ h r. take a_number l.bytes r
     (λ n s. finish l.ended l.bytes s (record { width = w; height = h; line = n })))))
-
-abbrev pub metric_form : FileLine → Result MetricLine Fault
-metric_form l =
-    take (word (codes "metric")) l.bytes 0
-    (λ _ p. take a_family l.bytes p
-    (λ f q. take a_number l.bytes q
-    (λ n r. finish l.ended l.bytes r (record { family = f; number = n }))))

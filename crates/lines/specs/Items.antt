@@ -11,7 +11,7 @@ use Rattle.std.specs.Prelude.{ℕ, cond, List, length, take as front, drop, Some
 use Rattle.std.specs.Str.{bytes_eq}
 use Rattle.lexer.specs.declared.faults.Cause.TheVariants.{Field}
 use Rattle.lexer.specs.declared.faults.Fault.{Fault}
-use Rattle.lexer.specs.Forms.{fault, a_number, take, finish}
+use Rattle.lexer.specs.Forms.{fault, after, a_number, take, closing, finish}
 use Rattle.lexer.specs.Lines.{FileLine}
 use Rattle.lines.specs.declared.names.ItemWord.{ItemWord}
 use Rattle.lines.specs.declared.names.ItemWord.TheVariants as W
@@ -31,7 +31,7 @@ pub data ItemForm : Type 0 where
 abbrev pub text_form : FileLine → ℕ → Result ItemForm Fault
 text_form l p =
     cond (nat_le p (length l.bytes))
-    (cond l.ended (Ok (text (drop p l.bytes))) (Err (fault Field (length l.bytes))))
+    (after (closing l.ended l.bytes) (λ _. Ok (text (drop p l.bytes))))
     (Err (fault Field p))
 
 abbrev pub plain_form : FileLine → ℕ → Result ItemForm Fault

@@ -1,13 +1,10 @@
 -- The names that a field may have. Assumes nothing.
 --     a_side      left or right
 --     a_clear     none, left, right or both
---     a_family    cell or table
 --     an_item     text, box or shape
 use Rattle.std.specs.Prelude.{None, codes}
 use Rattle.lexer.specs.declared.faults.Cause.TheVariants.{Keyword}
 use Rattle.lexer.specs.Forms.{FieldKind, field_kind, spelled}
-use Rattle.scales.specs.declared.Family.{Family}
-use Rattle.scales.specs.declared.Family.TheVariants.{Cell, Table}
 use Rattle.shapes.specs.declared.sides.Side.{Side}
 use Rattle.shapes.specs.declared.sides.Side.TheVariants as S
 use Rattle.shapes.specs.declared.sides.Clear.{Clear}
@@ -20,9 +17,6 @@ a_side = field_kind (λ bs. spelled (codes "left") S.Left (spelled (codes "right
 
 abbrev pub a_clear : FieldKind Clear
 a_clear = field_kind (λ bs. spelled (codes "none") C.None (spelled (codes "left") C.Left (spelled (codes "right") C.Right (spelled (codes "both") C.Both None bs) bs) bs) bs) Keyword
-
-abbrev pub a_family : FieldKind Family
-a_family = field_kind (λ bs. spelled (codes "cell") Cell (spelled (codes "table") Table None bs) bs) Keyword
 
 abbrev pub an_item : FieldKind ItemWord
 an_item = field_kind (λ bs. spelled (codes "text") Text (spelled (codes "box") Plain (spelled (codes "shape") Shaped None bs) bs) bs) Keyword

@@ -19,12 +19,7 @@ impl Kind for Below {
     ghost fails = { λ k. (number_below k.bound).fails };
 
     fn value(&self, bytes: &[u8]) -> Option<u16> {
-        let value = number(bytes)?;
-        if value < self.bound {
-            Some(value)
-        } else {
-            None
-        }
+        number(bytes).filter(|value| *value < self.bound)
     }
 
     fn cause(&self) -> Cause {

@@ -1,5 +1,5 @@
 // Flights of steps: `steps K W`, and then K pairs ROWS EXTENT.
-ghost use Rattle.std.specs.Prelude.{◌≡◌, ◌≤◌, [], IfOk};
+ghost use Rattle.std.specs.Prelude.{◌≡◌, ◌≤◌, []};
 ghost use Rattle.lexer.specs.LinesLeft.{line_of};
 ghost use Rattle.shapes.specs.Staircase.{most_steps};
 ghost use Rattle.lines.specs.Flights.{steps_form, steps_from, steps_said, climbed};
@@ -8,36 +8,33 @@ use lexer::faults::Fault;
 use lexer::fields::Fields;
 use lexer::kinds::{Number, Within, Word};
 use lexer::lines::Line;
-use shapes::stairs::{MOST_STEPS, Step};
+use shapes::stairs::{MOST_STEPS, Step, Steps};
 
-// A width, and the first `count` of these steps, from the top down.
+// A width, and steps from the top down.
 #[derive(Clone, Copy)]
 pub struct StepsLine {
     pub width: u16,
-    pub count: u16,
-    pub steps: [Step; MOST_STEPS],
+    pub steps: Steps,
 }
 
 // The rows and the extents of so many steps.
-fn take_steps(fields: &mut Fields<'_>, count: u16) -> Result<[Step; MOST_STEPS], Fault>
+fn take_steps(fields: &mut Fields<'_>, count: u16) -> Result<Steps, Fault>
     requires { count ≤ most_steps }
-    ensures value { climbed count fields.new.place result ≡ steps_from count fields.old.line.now fields.old.place [] }
+    ensures value { climbed fields.new.place result ≡ steps_from count fields.old.line.bytes.now fields.old.place [] }
     ensures line { fields.new.line ≡ fields.old.line }
-    ensures ended { fields.new.ended ≡ fields.old.ended }
 {
-    let mut steps = [Step { rows: 0, extent: 0 }; MOST_STEPS];
-    for i in 0..usize::from(count) {
+    let mut steps = Steps::default();
+    for _ in 0..count {
         let rows = fields.take(&Number)?;
         let extent = fields.take(&Number)?;
-        steps[i] = Step { rows, extent };
+        steps.push(Step { rows, extent });
     }
     Ok(steps)
 }
 
 // `steps K W` and K pairs ROWS EXTENT, with K 1 to 16. Whether they make a staircase is left open.
 pub fn steps_line(line: Line<'_>) -> Result<StepsLine, Fault>
-    ensures form { steps_said result ≡ steps_form (line_of line.entry) }
-    ensures few { IfOk result (λ s. s.count ≤ most_steps) }
+    ensures { steps_said result ≡ steps_form (line_of line.entry) }
 {
     let mut fields = Fields::new(line);
     fields.take(&Word { text: b"steps" })?;
@@ -48,9 +45,5 @@ pub fn steps_line(line: Line<'_>) -> Result<StepsLine, Fault>
     let width = fields.take(&Number)?;
     let steps = take_steps(&mut fields, count)?;
     fields.end()?;
-    Ok(StepsLine {
-        width,
-        count,
-        steps,
-    })
+    Ok(StepsLine { width, steps })
 }

@@ -84,11 +84,6 @@ pub fn item_line<'a>(line: Line<'a>, shapes: u16) -> Result<Item<'a>, Fault>
     let Some(text) = text_of(line.bytes) else {
         return fields_line(line, shapes);
     };
-    if !line.ended {
-        return Err(Fault {
-            cause: Cause::Field,
-            place: line.bytes.len(),
-        });
-    }
+    line.closed()?;
     Ok(Item::Text(text))
 }

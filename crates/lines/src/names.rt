@@ -1,9 +1,8 @@
-// The names that a field may have: sides, clears, families of metrics, and what an item is.
-ghost use Rattle.lines.specs.Names.{a_side, a_clear, a_family, an_item};
+// The names that a field may have: sides, clears, and what an item is.
+ghost use Rattle.lines.specs.Names.{a_side, a_clear, an_item};
 
 use lexer::faults::Cause;
-use lexer::kinds::{Kind, spells};
-use scales::Family;
+use lexer::kinds::Kind;
 use shapes::sides::{Clear, Side};
 
 // A field that names a side.
@@ -18,12 +17,10 @@ impl Kind for SideName {
     ghost fails = { λ _. a_side.fails };
 
     fn value(&self, bytes: &[u8]) -> Option<Side> {
-        if spells(bytes, b"left") {
-            Some(Side::Left)
-        } else if spells(bytes, b"right") {
-            Some(Side::Right)
-        } else {
-            None
+        match bytes {
+            b"left" => Some(Side::Left),
+            b"right" => Some(Side::Right),
+            _ => None,
         }
     }
 
@@ -44,42 +41,12 @@ impl Kind for ClearName {
     ghost fails = { λ _. a_clear.fails };
 
     fn value(&self, bytes: &[u8]) -> Option<Clear> {
-        if spells(bytes, b"none") {
-            Some(Clear::None)
-        } else if spells(bytes, b"left") {
-            Some(Clear::Left)
-        } else if spells(bytes, b"right") {
-            Some(Clear::Right)
-        } else if spells(bytes, b"both") {
-            Some(Clear::Both)
-        } else {
-            None
-        }
-    }
-
-    fn cause(&self) -> Cause {
-        Cause::Keyword
-    }
-}
-
-// A field that names a family of metrics.
-#[derive(Clone, Copy)]
-pub struct FamilyName;
-
-impl Kind for FamilyName {
-    type Value = Family;
-
-    ghost worth = { λ _. a_family.worth };
-
-    ghost fails = { λ _. a_family.fails };
-
-    fn value(&self, bytes: &[u8]) -> Option<Family> {
-        if spells(bytes, b"cell") {
-            Some(Family::Cell)
-        } else if spells(bytes, b"table") {
-            Some(Family::Table)
-        } else {
-            None
+        match bytes {
+            b"none" => Some(Clear::None),
+            b"left" => Some(Clear::Left),
+            b"right" => Some(Clear::Right),
+            b"both" => Some(Clear::Both),
+            _ => None,
         }
     }
 
@@ -111,14 +78,11 @@ impl Kind for ItemName {
     ghost fails = { λ _. an_item.fails };
 
     fn value(&self, bytes: &[u8]) -> Option<ItemWord> {
-        if spells(bytes, b"text") {
-            Some(ItemWord::Text)
-        } else if spells(bytes, b"box") {
-            Some(ItemWord::Plain)
-        } else if spells(bytes, b"shape") {
-            Some(ItemWord::Shaped)
-        } else {
-            None
+        match bytes {
+            b"text" => Some(ItemWord::Text),
+            b"box" => Some(ItemWord::Plain),
+            b"shape" => Some(ItemWord::Shaped),
+            _ => None,
         }
     }
 

@@ -16,7 +16,7 @@ pub struct Line {
 }
 
 // The top left corner of a box.
-#[derive(Clone, Copy)]
+#[derive(Clone, Copy, PartialEq, Eq, Debug)]
 pub struct Place {
     pub x: u32,
     pub y: u32,

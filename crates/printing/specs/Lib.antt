@@ -1,5 +1,4 @@
 pub mod Boxes
-pub mod Faults
-pub mod Fields
 pub mod Laying
+pub mod Pages
 pub mod Outputs

@@ -1,79 +1,75 @@
 // The lines of the boxes of a sheet.
 ghost use Rattle.std.specs.Prelude.{◌≡◌};
-ghost use Rattle.printing.specs.Boxes.{side_word, box_line, total_line, printed};
-ghost use Rattle.printing.specs.Laying.{memory, laid, counted};
+ghost use Rattle.printing.specs.Boxes.{box_line, total_line, printed};
+ghost use Rattle.printing.specs.Laying.{laid, counted};
 ghost use Rattle.printing.specs.Outputs.{print_answer, print_kept};
+ghost use Rattle.printing.specs.Pages.{on};
+ghost use Rattle.shapes.specs.Sides.{side_word};
 
-use crate::laying::{numbers, text};
-use crate::outputs::{ShortOutput, room};
+use crate::outputs::{Printable, ShortOutput, print_at_front, wanted};
+use crate::pages::Page;
 use rules::boxes::{BoxRecord, LineBox, PanelBox, Totals, totalled};
 use shapes::sides::Side;
 
-// Lays the word of a side.
-fn side_word(out: &mut [u8], at: usize, side: Side) -> usize
-    ensures { memory result out.new ≡ laid (memory at out.old) (side_word side) }
-{
-    match side {
-        Side::Left => text(out, at, b"left"),
-        Side::Right => text(out, at, b"right"),
-    }
-}
-
-// Lays the line of a box.
-fn box_line(out: &mut [u8], at: usize, item: &BoxRecord) -> usize
-    ensures { memory result out.new ≡ laid (memory at out.old) (box_line item.now) }
-{
-    match *item {
-        BoxRecord::Panel(
-            PanelBox {
-                side,
-                x,
-                y,
-                width,
-                height,
-            },
-        ) => {
-            let at = text(out, at, b"panel ");
-            let at = side_word(out, at, side);
-            let list = [
-                u64::from(x),
-                u64::from(y),
-                u64::from(width),
-                u64::from(height),
-            ];
-            numbers(out, at, &list)
-        }
-        BoxRecord::Line(LineBox { x, y, width, words }) => {
-            let at = text(out, at, b"line");
-            let list = [
-                u64::from(x),
-                u64::from(y),
-                u64::from(width),
-                u64::from(words),
-            ];
-            numbers(out, at, &list)
+impl Page<'_> {
+    // Lays the word of a side.
+    fn side_word(&mut self, side: Side)
+        ensures bytes { on self.new ≡ laid (on self.old) (side_word side) }
+        ensures memory { self.new.out.ghost_name ≡ self.old.out.ghost_name }
+    {
+        match side {
+            Side::Left => self.text(b"left"),
+            Side::Right => self.text(b"right"),
         }
     }
-}
 
-// Lays the line of the totals.
-fn total_line(out: &mut [u8], at: usize, totals: Totals) -> usize
-    ensures { memory result out.new ≡ laid (memory at out.old) (total_line totals) }
-{
-    let at = text(out, at, b"total");
-    let list = [totals.panels, totals.lines, totals.words];
-    numbers(out, at, &list)
-}
-
-// Lays the lines of all boxes, and that of their totals, at the front of the memory.
-fn lay(boxes: &[BoxRecord], out: &mut [u8]) -> usize
-    ensures { memory result out.new ≡ laid (memory 0 out.old) (printed boxes.now) }
-{
-    let mut at = 0;
-    for item in boxes {
-        at = box_line(out, at, item);
+    // Lays the line of a box.
+    fn box_line(&mut self, item: &BoxRecord)
+        ensures bytes { on self.new ≡ laid (on self.old) (box_line item.now) }
+        ensures memory { self.new.out.ghost_name ≡ self.old.out.ghost_name }
+    {
+        match *item {
+            BoxRecord::Panel(
+                PanelBox {
+                    side,
+                    x,
+                    y,
+                    width,
+                    height,
+                },
+            ) => {
+                self.text(b"panel ");
+                self.side_word(side);
+                self.numbers(&[x, y, width, height].map(u64::from));
+            }
+            BoxRecord::Line(LineBox { x, y, width, words }) => {
+                self.text(b"line");
+                self.numbers(&[x, y, width, words].map(u64::from));
+            }
+        }
     }
-    total_line(out, at, totalled(boxes))
+
+    // Lays the line of the totals.
+    fn total_line(&mut self, totals: Totals)
+        ensures bytes { on self.new ≡ laid (on self.old) (total_line totals) }
+        ensures memory { self.new.out.ghost_name ≡ self.old.out.ghost_name }
+    {
+        self.text(b"total");
+        self.numbers(&[totals.panels, totals.lines, totals.words]);
+    }
+}
+
+// The lines of all boxes, and then that of their totals.
+impl Printable for &[BoxRecord] {
+    ghost bytes = { λ b. printed b.now };
+
+    fn lay(&self, page: &mut Page<'_>) {
+        let boxes = *self;
+        for item in boxes {
+            page.box_line(item);
+        }
+        page.total_line(totalled(boxes));
+    }
 }
 
 // How many bytes `print` writes for these boxes. The count is held at the greatest usize; memory is never as long as that, so
@@ -81,8 +77,7 @@ fn lay(boxes: &[BoxRecord], out: &mut [u8]) -> usize
 pub fn printed_length(boxes: &[BoxRecord]) -> usize
     ensures { result ≡ counted (printed boxes.now) }
 {
-    let mut none = [0u8; 0];
-    lay(boxes, &mut none)
+    wanted(&boxes)
 }
 
 // Prints the boxes and their totals at the front of the memory, and answers how many bytes they take; or refuses memory that
@@ -91,8 +86,7 @@ pub fn print(boxes: &[BoxRecord], out: &mut [u8]) -> Result<usize, ShortOutput>
     ensures answer { result ≡ print_answer (printed boxes.now) out.old }
     ensures kept { out.new ≡ print_kept (printed boxes.now) out.old }
 {
-    room(printed_length(boxes), out)?;
-    Ok(lay(boxes, out))
+    print_at_front(&boxes, out)
 }
 
 #[cfg(test)]

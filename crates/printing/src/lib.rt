@@ -4,12 +4,15 @@
 // The lines of the boxes of a sheet.
 mod boxes;
 // The line of a fault.
-mod faults;
-// Bytes laid into lent memory, one after another.
-mod laying;
-// Whether the lent memory is long enough.
+mod fault_lines;
+// What is printed into lent memory, where it is long enough.
 mod outputs;
+// Lent memory that bytes are laid into.
+mod pages;
 
 pub use boxes::{print, printed_length};
-pub use faults::{FaultLine, Layer, fault_length, print_fault};
-pub use outputs::ShortOutput;
+pub use fault_lines::{fault_length, print_fault};
+pub use faults::layers::Layer;
+pub use faults::tellings::FaultLine;
+pub use outputs::{Printable, ShortOutput, print_at_front, wanted};
+pub use pages::Page;

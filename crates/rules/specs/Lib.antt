@@ -1,5 +1,6 @@
 pub mod Refusals
 pub mod Boxes
+pub mod Printed
 pub mod Account
 pub mod Words
 pub mod Runs

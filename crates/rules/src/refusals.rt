@@ -2,32 +2,32 @@
 ghost use Rattle.std.specs.Prelude.{◌≡◌};
 ghost use Rattle.rules.specs.Refusals.{number_of};
 
-#[derive(Clone, Copy)]
+#[derive(Clone, Copy, PartialEq, Eq, Debug)]
 pub enum Refusal {
     // Width, height or line height outside its range.
-    BadSize,
+    BadSize = 1,
     // Too few cells for the rows.
-    FewCells,
+    FewCells = 2,
     // Width, height, steps or extents that make no shape.
-    NoShape,
+    NoShape = 3,
     // No paragraph is open.
-    NoParagraph,
+    NoParagraph = 20,
     // A paragraph is open already.
-    AlreadyOpen,
+    AlreadyOpen = 21,
     // The slip's number is not the open paragraph's.
-    WrongSlip,
+    WrongSlip = 22,
     // Margins that leave no unit, or end past the sheet.
-    BadMargins,
+    BadMargins = 23,
     // A panel wider than the margins leave.
-    WidePanel,
+    WidePanel = 24,
     // A word wider than the margins leave.
-    WideWord,
+    WideWord = 25,
     // No free place in the list of boxes.
-    ListFull,
+    ListFull = 26,
     // No permitted place for a panel, or no row open to a word that fits it.
-    NoPlace,
+    NoPlace = 27,
     // As many paragraphs as there may be were opened.
-    ManyParagraphs,
+    ManyParagraphs = 28,
 }
 
 impl Refusal {
@@ -35,19 +35,6 @@ impl Refusal {
     pub fn number(self) -> u8
         ensures { result ≡ number_of self }
     {
-        match self {
-            Refusal::BadSize => 1,
-            Refusal::FewCells => 2,
-            Refusal::NoShape => 3,
-            Refusal::NoParagraph => 20,
-            Refusal::AlreadyOpen => 21,
-            Refusal::WrongSlip => 22,
-            Refusal::BadMargins => 23,
-            Refusal::WidePanel => 24,
-            Refusal::WideWord => 25,
-            Refusal::ListFull => 26,
-            Refusal::NoPlace => 27,
-            Refusal::ManyParagraphs => 28,
-        }
+        self as u8
     }
 }

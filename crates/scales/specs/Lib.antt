@@ -1,2 +1,4 @@
-pub mod Scales
+pub mod Headings
+pub mod Names
 pub mod Ranges
+pub mod Scales

@@ -1,5 +1,11 @@
-// A metrics of one of the two families, itself a metrics.
+// A metrics of one of the two families, itself a metrics, and the line of a file that asks for one.
 #![tactic(auto)]
+
+// The line that asks for a metrics.
+pub mod headings;
+
+// The names of the families.
+pub mod names;
 
 ghost use Rattle.std.specs.Prelude.{◌≡◌};
 ghost use Rattle.scales.specs.Scales.{family_advances, scale_advances, made};

@@ -1,7 +1,9 @@
 pub mod Form
+pub mod Sides
 pub mod Made
 pub mod Box
 pub mod Staircase
+pub mod Steps
 pub mod Models
 pub mod Theorems
 pub mod Reals

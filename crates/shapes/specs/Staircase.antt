@@ -4,7 +4,8 @@
 --     stairs_form w ss    the staircase of width w and steps ss
 --     stairs_fit w ss     w and ss keep every limit
 --     make_stairs w ss    that staircase where they do, else None
-use Rattle.std.specs.Prelude.{ℕ, ◌-◌, Bool, true, cond, ◌&&◌, List, [], ◌∷◌, length, Some, None, sum_by, Option, nat_le, nat_lt}
+use Rattle.std.specs.Prelude.{ℕ, ◌-◌, Bool, cond, ◌&&◌, List, [], ◌∷◌, length, Some, None, sum_by, Option, nat_le, nat_lt}
+use Rattle.std.specs.List.{list_all}
 use Rattle.shapes.specs.declared.stairs.Step.{Step}
 use Rattle.shapes.specs.Form.{Form}
 use Rattle.shapes.specs.Made.{in_range}
@@ -32,8 +33,7 @@ abbrev pub step_fits : ℕ → Step → Bool
 step_fits w s = nat_le 1 s.rows && nat_le s.extent w
 
 abbrev pub steps_fit : ℕ → List Step → Bool
-steps_fit w [] = true
-steps_fit w (s ∷ ss) = step_fits w s && steps_fit w ss
+steps_fit w ss = list_all (step_fits w) ss
 
 abbrev pub stairs_fit : ℕ → List Step → Bool
 stairs_fit w ss = in_range w && (count_fits ss && (steps_fit w ss && in_range (rows_of ss)))

@@ -12,7 +12,7 @@ pub mod stairs;
 pub mod theorems;
 
 // The one refusal of this crate: these numbers make no shape.
-#[derive(Clone, Copy)]
+#[derive(Clone, Copy, Debug)]
 pub struct NoShape;
 
 // How wide and how high a panel is, and how far it reaches in on each of its rows, from the top down.

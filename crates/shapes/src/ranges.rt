@@ -9,5 +9,5 @@ pub const MOST_UNITS: u32 = 4096;
 pub fn in_range(n: u32) -> bool
     ensures { result ≡ in_range n }
 {
-    1 <= n && n <= MOST_UNITS
+    (1..=MOST_UNITS).contains(&n)
 }

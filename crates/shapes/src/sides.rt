@@ -1,12 +1,27 @@
 // The side that a panel stands on, and the sides that it clears.
 ghost use Rattle.shapes.specs.Form.{clears};
-ghost use Rattle.std.specs.Prelude.{◌≡◌};
+ghost use Rattle.shapes.specs.Sides.{side_word};
+ghost use Rattle.std.specs.Prelude.{◌≡◌, Some};
+
+use std::fmt;
 
 // The edge of the sheet that a panel keeps to.
-#[derive(Clone, Copy)]
+#[derive(Clone, Copy, PartialEq, Eq, Debug)]
 pub enum Side {
     Left,
     Right,
+}
+
+// Its name.
+impl fmt::Display for Side {
+    ghost output = { λ s. Some (side_word s) };
+
+    fn fmt<W: fmt::Write>(&self, f: &mut fmt::Formatter<W>) -> fmt::Result {
+        f.write_str(match self {
+            Side::Left => "left",
+            Side::Right => "right",
+        })
+    }
 }
 
 // Below the panels of which sides a panel or a paragraph begins.

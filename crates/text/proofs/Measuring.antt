@@ -1,14 +1,11 @@
 -- What measuring gives where there is no fault. Assumes nothing.
-use Rattle.std.proofs.Common.{◌≡◌, ℕ, ◌<◌, ◌≤◌, false, List, [], length, get_or, drop, is_some, Some, None, Option, sym, refl, ap, ◌∙◌, subst, arith}
+use Rattle.std.proofs.Common.{◌≡◌, ℕ, ◌<◌, ◌≤◌, List, length, get_or, drop, None, sym, ap, ◌∙◌, subst, arith}
 use Rattle.metrics.specs.Advance.{Advances}
 use Rattle.std.proofs.lemmas.List.{length-map, get_or_append_left}
-use Rattle.std.proofs.lemmas.Bool.{false≢true}
 use Rattle.std.proofs.lemmas.Bool.Decides.{nat_tests}
 use Rattle.words.specs.Words.{words_of}
 use Rattle.text.specs.Fault.{longest_text, text_fault}
 use Rattle.text.specs.Measure.{measured, word_of, laid, FitAdvance, no_word}
-use Rattle.text.specs.Text.{unless, accepted}
-use Rattle.text.specs.declared.faults.TextFault.{TextFault}
 use Rattle.text.specs.declared.records.Word.{Word}
 use Rattle.text.proofs.Advances.{measured_fits}
 

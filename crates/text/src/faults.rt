@@ -14,6 +14,12 @@ use words::spans::count;
 // The longest text that is measured, in bytes.
 const LONGEST: usize = 8192;
 
+// The records that its words may need, of which there are at most half as many as bytes.
+pub const MOST_WORDS: usize = LONGEST / 2;
+
+// The cells that the runs of so many words take, two for each.
+pub const MOST_RUNS: usize = 2 * MOST_WORDS;
+
 #[derive(Clone, Copy, PartialEq, Eq, Debug)]
 pub enum TextFault {
     // No metrics could be made.
@@ -26,6 +32,22 @@ pub enum TextFault {
     Memory,
 }
 
+// A text that is not measured: why, and the records and the cells that were lent for it, as they were.
+#[derive(Debug, Drop)]
+pub struct Unmeasured<'a> {
+    pub fault: TextFault,
+    pub words: &'a mut [Word],
+    pub cells: &'a mut [Run],
+}
+
+impl From<Unmeasured<'_>> for TextFault {
+    ghost from_gives = { λ x y. y ≡ x.fault };
+
+    fn from(back: Unmeasured<'_>) -> TextFault {
+        back.fault
+    }
+}
+
 impl From<Unfit> for TextFault {
     ghost from_gives = { λ _ y. y ≡ Metrics };
 
@@ -35,7 +57,7 @@ impl From<Unfit> for TextFault {
 }
 
 impl TextFault {
-    // The number by which the fault is known outside.
+    // The number by which the fault is known outside. The numbers stand here, since a kind that holds a place has none by `as`.
     pub fn cause(self) -> u8
         ensures { result ≡ cause_of self }
     {

@@ -10,7 +10,7 @@ mod runs;
 // A measured text: making one, and what it answers.
 mod texts;
 
-pub use faults::{TextFault, fault};
+pub use faults::{MOST_RUNS, MOST_WORDS, TextFault, Unmeasured, fault};
 pub use records::Word;
 pub use runs::{Room, Run, sums_are_held};
 pub use texts::Text;

@@ -10,7 +10,8 @@ mod calls;
 pub mod making;
 
 // The records of the words, of which the first `runs.count()` are in use, the tree of the words' runs, and the advance of
-// the space. It is made by `measure` and `new`, and only read after that.
+// the space. It is made by `Text::new` and `measure` alone, and only read after that.
+// The list is whole, since the contracts of those two also say what its other records hold.
 #[derive(Drop)]
 pub struct Text<'a> {
     words: &'a [Word],

@@ -6,8 +6,7 @@ ghost use Rattle.std.specs.Prelude.{◌≡◌};
 
 use crate::NoShape;
 use crate::ranges::in_range;
-use crate::stairs::steps::{held, rows_of, steps_fit};
-use crate::stairs::{MOST_STEPS, Stairs, Step};
+use crate::stairs::{Stairs, Step, Steps};
 
 impl Stairs {
     // The staircase of this width, 1 to 4,096, and these 1 to 16 steps of 1 to 4,096 rows in all.
@@ -15,19 +14,16 @@ impl Stairs {
     pub fn new(width: u32, steps: &[Step]) -> Result<Stairs, NoShape>
         ensures { answered stairs_model result ≡ make_stairs width steps.now }
     {
-        let count = steps.len();
-        if !in_range(width) || count < 1 || count > MOST_STEPS || !steps_fit(width, steps) {
-            return Err(NoShape);
+        let steps = Steps::new(steps).ok_or(NoShape)?;
+        let height = steps.rows();
+        if in_range(width) && !steps.as_slice().is_empty() && steps.fit(width) && in_range(height) {
+            Ok(Stairs {
+                width,
+                height,
+                steps,
+            })
+        } else {
+            Err(NoShape)
         }
-        let height = rows_of(steps);
-        if !in_range(height) {
-            return Err(NoShape);
-        }
-        Ok(Stairs {
-            width,
-            height,
-            count,
-            steps: held(steps),
-        })
     }
 }

@@ -1,16 +1,15 @@
 // What a staircase answers.
 ghost use Rattle.shapes.specs.Models.{stairs_model};
-ghost use Rattle.std.specs.Prelude.{take};
 ghost use Rattle.shapes.specs.Reals.{stairs_real};
+ghost use Rattle.shapes.specs.Steps.{steps_in};
 
 use crate::Shape;
 use crate::stairs::Stairs;
-use crate::stairs::steps::extent_at;
 
 impl Shape for Stairs {
     ghost model = { stairs_model };
 
-    ghost real = { λ s. stairs_real s.width (take s.count s.steps) s.fits };
+    ghost real = { λ s. stairs_real s.width (steps_in s.steps) s.fits };
 
     fn width(&self) -> u32 {
         self.width
@@ -21,7 +20,7 @@ impl Shape for Stairs {
     }
 
     fn extent(&self, k: u32) -> u32 {
-        extent_at(&self.steps[0..self.count], k)
+        self.steps.extent(k)
     }
 }
 
@@ -34,9 +33,7 @@ mod tests {
     #[test]
     fn each_row_has_its_steps_extent(rt: HostRuntime) -> Result<(), Fail> {
         let steps = [Step { rows: 2, extent: 3 }, Step { rows: 1, extent: 5 }];
-        let Ok(stairs) = Stairs::new(5, &steps) else {
-            return Err(Fail::new("refused"));
-        };
+        let stairs = Stairs::new(5, &steps)?;
         assert_eq!(rt; stairs.height(), 3);
         assert_eq!(rt; stairs.extent(1), 3);
         assert_eq!(rt; stairs.extent(2), 5);

@@ -5,19 +5,11 @@ ghost use Rattle.segment_tree.specs.Trees.{elements, laid, KeptLeaves};
 ghost use Rattle.text.specs.Measure.{run_of};
 ghost use Rattle.text.specs.Text.{Measures, Makes};
 
-use crate::faults::admitted;
+use crate::faults::{Unmeasured, admitted};
 use crate::records::record_all;
-use crate::{Run, Text, TextFault, Word};
+use crate::{Run, Text, Word};
 use metrics::advances::Metrics;
 use segment_tree::{Leaves, Tree};
-
-// A text that is not measured: why, and the records and the cells that were lent for it, as they were.
-#[derive(Drop)]
-pub struct Unmeasured<'a> {
-    pub fault: TextFault,
-    pub words: &'a mut [Word],
-    pub cells: &'a mut [Run],
-}
 
 // Writes the run of each word as a leaf.
 fn lay_runs(runs: &mut Leaves<'_, Run>, words: &[Word])
@@ -97,29 +89,35 @@ pub fn measure<'a, M: Metrics>(
 #[cfg(test)]
 mod tests {
     use super::*;
+    use crate::TextFault;
     use metrics::cells::Cell;
     use std::test::Fail;
 
     #[test]
     fn two_words_of_three_bytes(rt: HostRuntime) -> Result<(), Fail> {
-        let Ok(metrics) = Cell::new(5) else {
-            return Err(Fail::new("5 is an advance"));
-        };
-        let blank = Word {
-            place: 0,
-            length: 0,
-            advance: 0,
-        };
-        let mut words = [blank; 2];
-        let mut cells = [Run {
-            advance: 0,
-            count: 0,
-        }; 4];
+        let metrics = Cell::new(5)?;
+        let mut words = [Word::default(); 2];
+        let mut cells = [Run::default(); 4];
         let text = measure(&metrics, b"one two", &mut words, &mut cells);
         assert_eq!(rt; text.count(), 2);
         assert_eq!(rt; text.fold(0, 2).width(text.space()), 35);
         let last = text.word(1).ok_or("no second word")?;
         assert!(rt; last.place == 4 && last.advance == 15);
+        Ok(())
+    }
+
+    #[test]
+    fn a_refused_text_hands_its_memory_back(rt: HostRuntime) -> Result<(), Fail> {
+        let metrics = Cell::new(5)?;
+        let mut words = [Word::default(); 1];
+        let mut cells = [Run::default(); 4];
+        match Text::new(&metrics, b"one two", &mut words, &mut cells) {
+            Ok(_) => return Err(Fail::new("two words in one record")),
+            Err(back) => assert_eq!(rt; back.fault, TextFault::Memory),
+        }
+        let text = Text::new(&metrics, b"one", &mut words, &mut cells)?;
+        assert_eq!(rt; text.count(), 1);
+        assert_eq!(rt; text.fold(0, 1).advance, 15);
         Ok(())
     }
 }

@@ -1,4 +1,4 @@
-use Rattle.std.proofs.Common.{◌≡◌, zero-add, length}
+use Rattle.std.proofs.Common.{◌≡◌, zero-add}
 use Rattle.words.specs.Words.{words_of, words_left}
 use Rattle.text.specs.Measure.{word_of}
 use Rattle.text.proofs.Laying.{laid_all, words_within}

@@ -1,0 +1,4 @@
+pub mod Fields
+pub mod Layers
+pub mod Locations
+pub mod Tellings

@@ -1,6 +1,0 @@
-use Rattle.std.proofs.Common.{◌≡◌, drop}
-use Rattle.shapes.specs.Staircase.{extent_at}
-use Rattle.shapes.proofs.stairs.steps.extent_at.Given as goal
-
-abbrev pub invariant-loop-step : goal.invariant-loop-step
-invariant-loop-step l = extent_at (drop l.step-index l.steps) l.rest ≡ extent_at l.steps l.k
