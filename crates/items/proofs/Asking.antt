@@ -1,5 +1,5 @@
 -- A call that a line asks for, once it is made. Assumes nothing.
-use Rattle.std.proofs.Common.{◌≡◌, ℕ, List, [], map, length, Some, None, Ok, Err, Option, Result, sym, refl, ap, ◌∙◌, subst, subst₂, arith}
+use Rattle.std.proofs.Common.{◌≡◌, ℕ, List, [], map, length, Some, None, Ok, Err, Option, Result, sym, ap, ◌∙◌, subst, subst₂}
 use Rattle.shapes.specs.declared.sides.Side.{Side}
 use Rattle.shapes.specs.declared.sides.Clear.{Clear}
 use Rattle.shapes.specs.Form.{Form}
@@ -15,7 +15,7 @@ use Rattle.sheet.specs.declared.sheet.Sheet.{Sheet}
 use Rattle.sheet.specs.Stores.{advances_in}
 use Rattle.sheet.specs.Sheets.{fields, Tells}
 use Rattle.items.specs.declared.faults.FileFault.{FileFault}
-use Rattle.items.specs.Calls.{advances_of, refusing, unless, text_call, panel_call}
+use Rattle.items.specs.Calls.{advances_of, unless, text_call, panel_call}
 use Rattle.items.specs.Asked.{judged, Asked}
 use Rattle.items.specs.Items.{call_of, item_call}
 use Rattle.items.specs.Onward.{onward}
@@ -28,10 +28,6 @@ use Rattle.lines.specs.Items.{ItemForm, item_form, item_of}
 pub asked_panel : (d : Side) (c : Clear) (o : Option Form) (f : Form) (a : Answer) (r : Result (Unit {0}) FileFault) (s t : Sheet)
     → o ≡ Some f → Tells (panels (wanted d c f)) a s t → r ≡ judged a → Asked (panel_call d c o) r s t
 asked_panel d c o f a r s t is told how = subst (λ (p : Option Form). Asked (panel_call d c p) r s t) (sym is) (a, told, how)
-
-pub refusing_none : (o : Option TextFault) (u : Unit {0}) → Ok u ≡ refusing o → o ≡ None
-refusing_none None u h = refl
-refusing_none (Some f) u h = let z : ◌≡◌ {A = ℕ} 0 1 = cc in absurd (omega arith)
 
 pub asked_text : (adv : ℕ → ℕ) (text : List ℕ) (words runs : ℕ) (t : Text) (a : Answer) (r : Result (Unit {0}) FileFault) (s u : Sheet)
     → text_fault text words runs ≡ None → words_in t ≡ accepted adv text words runs → t.space ≡ adv space_byte

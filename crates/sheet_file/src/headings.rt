@@ -22,6 +22,7 @@ use sheet::sizes::SheetSize;
 const MOST_PARAGRAPHS: u16 = 256;
 
 // The size of the sheet, where it can be made over so many cells.
+// This function and its five likes take two steps each: one function over a closure would want a proof of what it reads at each.
 pub(crate) fn next_size(cursor: &mut Cursor<'_>, cells: usize) -> Result<SheetSize, Located>
     ensures { Took (λ z. z) (sheet_of cells) cursor.old result cursor.new }
 {

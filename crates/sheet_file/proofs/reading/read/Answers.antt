@@ -1,8 +1,7 @@
-use Rattle.std.proofs.Common.{◌≡◌, [], length, ◌∙◌}
+use Rattle.std.proofs.Common.{◌≡◌, length, ◌∙◌}
 use Rattle.sheet.specs.Fresh.{new_size}
-use Rattle.sheet.specs.Sheets.{Past}
 use Rattle.sheet_file.specs.Cursors.{ahead, number}
-use Rattle.sheet_file.specs.Done.{fault_in, ParasDone, Goes}
+use Rattle.sheet_file.specs.Done.{fault_in}
 use Rattle.sheet_file.specs.Plans.{Plan, body_of, body_plan}
 use Rattle.sheet_file.proofs.Lying.{laid_from, fault_part, plan_unsheeted, plan_sheeted}
 use Rattle.sheet_file.proofs.reading.read.Goals as goal
