@@ -13,6 +13,7 @@ use lines::names::{ClearName, SideName};
 use places::parts::Span;
 use scales::headings::metric_line;
 use shapes::stairs::{MOST_STEPS, Step, Steps};
+use sheet::sizes::SheetSize;
 
 // The most places of a list.
 pub const MOST_PLACES: u16 = 1024;
@@ -33,9 +34,11 @@ fn read_size(line: Line<'_>) -> Result<Size, Fault>
     })?;
     fields.end()?;
     Ok(Size {
-        width,
-        height,
-        line: rows,
+        sheet: SheetSize {
+            width: u32::from(width),
+            height: u32::from(height),
+            line: u32::from(rows),
+        },
         places,
     })
 }
