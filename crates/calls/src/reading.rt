@@ -97,15 +97,9 @@ fn read_passage<'a>(line: Line<'a>) -> Result<Passage<'a>, Fault>
     let mut fields = Fields::new(line);
     fields.take(&Word { text: b"text" })?;
     let from = fields.take(&Number)?;
-    let rest = fields.fault(Cause::Field);
-    let place = rest.place;
-    if place > line.bytes.len() {
-        return Err(rest);
-    }
-    Ok(Passage {
-        from,
-        bytes: &line.bytes[place..],
-    })
+    let missing = fields.fault(Cause::Field);
+    let bytes = line.bytes.get(missing.place..).ok_or(missing)?;
+    Ok(Passage { from, bytes })
 }
 
 // The rows and the extents of so many steps.
@@ -145,8 +139,8 @@ fn read_stairs(line: Line<'_>) -> Result<StairsPanel, Fault> {
 // The line with its line end: the last line counts with or without it.
 fn whole<'a>(line: Line<'a>) -> Line<'a> {
     Line {
-        bytes: line.bytes,
         ended: true,
+        ..line
     }
 }
 
