@@ -1,10 +1,9 @@
 -- A line begins with `text ` exactly where its first field is `text` and a space follows. Assumes nothing.
-use Rattle.std.proofs.Common.{◌≡◌, ℕ, suc, ◌+◌, ◌<◌, Bool, true, false, cond, eqb, ◌⊎◌, List, [], ◌∷◌, ◌++◌, length, get_or, take as front, drop, Some, None, Ok, Err, codes, Option, Result, sym, refl, ap, ◌∙◌, inl, inr, ⊎_elim, one-add, arith}
-use Rattle.std.specs.List.{prefix_len}
+use Rattle.std.proofs.Common.{◌≡◌, ℕ, ◌+◌, ◌<◌, Bool, true, false, cond, eqb, ◌⊎◌, List, [], ◌∷◌, ◌++◌, length, get_or, take as front, drop, Some, None, Ok, Err, codes, Option, Result, sym, refl, ap, ◌∙◌, inl, inr, ⊎_elim, arith}
 use Rattle.std.specs.Str.{bytes_eq}
 use Rattle.std.proofs.lemmas.Slice.Eq.{bytes_eq-Decides}
 use Rattle.std.proofs.lemmas.List.{take-append-drop, take_more, length-take-le}
-use Rattle.std.proofs.lemmas.List.Sums.{prefix_len-le-length}
+use Rattle.std.proofs.lemmas.List.Sums.{prefix_len-le-length, prefix_len_stops}
 use Rattle.std.proofs.lemmas.Bool.{cond-true, cond-false, cases_lt, cases_Bool, eqb-true, eq-eqb, ne_eqb, not-false, le-leb, lt-leb}
 use Rattle.lexer.specs.declared.faults.Cause.TheVariants.{Field}
 use Rattle.lexer.specs.declared.faults.Fault.{Fault}
@@ -16,15 +15,6 @@ use Rattle.lines.specs.declared.names.ItemWord.{ItemWord}
 use Rattle.lines.specs.declared.names.ItemWord.TheVariants.{Text, Plain, Shaped}
 use Rattle.lines.specs.Items.{text, item_rest, item_form, fields_rest, fields_form, text_in}
 use Rattle.lines.specs.Names.{an_item}
-
--- the byte that a run stops at is none of the run's
-stops_at : (p : ℕ → Bool) (x : ℕ) (xs : List ℕ) (t : Bool) → p x ≡ t → (prefix_len p xs < length xs → p (get_or xs (prefix_len p xs) 0) ≡ false) → cond t (1 + prefix_len p xs) 0 < suc (length xs) → p (get_or (x ∷ xs) (cond t (1 + prefix_len p xs) 0) 0) ≡ false
-stops_at p x xs true e rest h = rw one-add (rest (omega arith))
-stops_at p x xs false e rest h = e
-
-run_stops : (p : ℕ → Bool) (xs : List ℕ) → prefix_len p xs < length xs → p (get_or xs (prefix_len p xs) 0) ≡ false
-run_stops p [] h = absurd (omega arith)
-run_stops p (x ∷ xs) h = stops_at p x xs (p x) refl (run_stops p xs) h
 
 -- the first field fills the line, or a space follows it
 pub record Followed (line w : List ℕ) : Type 0 where
@@ -49,7 +39,7 @@ module _ (line w : List ℕ) (e : field line 0 ≡ Some w) where
 
   space_follows : width line 0 < length line → front (length w + 1) line ≡ w ++ (space ∷ [])
   space_follows lt =
-      let byte : get_or line (width line 0) 0 ≡ space = eqb-true _ _ (not-false _ (run_stops (other_than space) line lt)) in
+      let byte : get_or line (width line 0) 0 ≡ space = eqb-true _ _ (not-false _ (prefix_len_stops (other_than space) line 0 lt)) in
       ap (λ n. front (n + 1) line) (sym width_is)
       ∙ take_more line (width line 0) 0 lt
       ∙ (λ i. field_is i ++ (byte i ∷ []))

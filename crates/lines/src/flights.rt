@@ -17,8 +17,8 @@ pub struct StepsLine {
     pub steps: Steps,
 }
 
-// The rows and the extents of so many steps.
-fn take_steps(fields: &mut Fields<'_>, count: u16) -> Result<Steps, Fault>
+// The rows and the extents of so many steps, at most 16; the cursor moves past them.
+pub fn take_steps(fields: &mut Fields<'_>, count: u16) -> Result<Steps, Fault>
     requires { count ≤ most_steps }
     ensures value { climbed fields.new.place result ≡ steps_from count fields.old.line.bytes.now fields.old.place [] }
     ensures line { fields.new.line ≡ fields.old.line }

@@ -1,10 +1,13 @@
 -- How many lines a file has, and at most how many words. Assumes nothing.
 --     bytes_in ls    how many bytes the lines ls hold
 --     words_told r   how many words are told of: none where there is a fault
-use Rattle.std.proofs.Common.{◌≡◌, ℕ, ◌+◌, ◌≤◌, Bool, true, false, cond, eqb, List, [], ◌∷◌, length, Ok, Err, Result, ap, arith}
+use Rattle.std.proofs.Common.{◌≡◌, ℕ, ◌+◌, ◌≤◌, Bool, true, false, cond, eqb, List, [], ◌∷◌, length, Some, None, Ok, Err, MatchOption, Option, Result, ap, arith}
 use Rattle.lexer.specs.Bytes.{line_end}
 use Rattle.lexer.specs.Lines.{FileLine, file_line, file_lines, with_byte}
+use Rattle.lexer.specs.LinesLeft.{line_of}
 use Rattle.lexer.specs.declared.faults.Fault.{Fault}
+use Rattle.lexer.specs.declared.lines.Line.{Line}
+use Rattle.lexer.proofs.Counts.{length_file_lines}
 use Rattle.std.proofs.lemmas.List.Sums.{sum_by-cons}
 use Rattle.text.specs.declared.faults.TextFault.{TextFault}
 use Rattle.words.proofs.Walks.{half_as_many_words}
@@ -12,28 +15,19 @@ use Rattle.text_report.specs.Headings.{advances_of}
 use Rattle.text_report.specs.Measures.{line_ending, refused, measure_of}
 use Rattle.text_report.specs.Onward.{onward}
 use Rattle.text_report.specs.Printing.{words_in}
-use Rattle.text_report.specs.Reading.{at_line, on_line, before, text_measures, file_measures}
+use Rattle.fault_lines.specs.Locations.{at_line, on_line}
+use Rattle.text_report.specs.Reading.{before, text_measures, file_measures}
 use Rattle.text_report.specs.declared.faults.FileFault.{FileFault}
 use Rattle.text_report.specs.declared.faults.FileFault.TheVariants.{Form, Measuring}
-use Rattle.text_report.specs.declared.faults.Located.{Located}
+use Rattle.text_report.specs.Faults.{Located}
 use Rattle.text_report.specs.declared.texts.Measured.{Measured}
 
-length_with_byte : (b : ℕ) (ls : List FileLine) → length (with_byte b ls) ≤ 1 + length ls
-length_with_byte b [] = omega arith
-length_with_byte b (l ∷ ls) = omega arith
-
--- a file has no more lines than bytes
-pub length_file_lines : (file : List ℕ) → length (file_lines file) ≤ length file
-length_file_lines [] = omega arith
-length_file_lines (b ∷ bs) =
-    let rest = length_file_lines bs in
-    let more = length_with_byte b (file_lines bs) in
-    let P : Bool → Type 0 = λ t. length (cond t (file_line [] true ∷ file_lines bs) (with_byte b (file_lines bs))) ≤ length (b ∷ bs) in
-    elim (eqb b line_end) as P [ true ↦ omega arith | false ↦ omega arith ]
-
--- so the lines after the first, and one more, are no more than the bytes
-pub length_left : (file : List ℕ) (l : FileLine) (ls : List FileLine) → file_lines file ≡ l ∷ ls → 1 + length ls ≤ length file
-length_left file l ls e = let all = length_file_lines file in let long = ap length e in omega arith
+-- the lines after the next one are no more than the bytes
+pub length_left : (file : List ℕ) (ls : List FileLine) (r : Option Line) (after : List FileLine) → ls ≡ file_lines file
+    → MatchOption r ((ls ≡ []) × (after ≡ [])) (λ l. ls ≡ line_of l ∷ after)
+    → length after ≤ length file
+length_left file ls None after e h = omega (arith, ap length h.1)
+length_left file ls (Some l) after e h = omega (arith, ap length h, ap length e, length_file_lines file)
 
 abbrev bytes_in : List FileLine → ℕ
 bytes_in [] = 0

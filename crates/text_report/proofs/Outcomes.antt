@@ -6,10 +6,11 @@ use Rattle.text_report.specs.Law.{no_line, no_measure, AllMeasured, FirstFault, 
 use Rattle.text_report.specs.Headings.{advances_of}
 use Rattle.text_report.specs.Measures.{text_measure}
 use Rattle.text_report.specs.Onward.{onward}
-use Rattle.text_report.specs.Reading.{at_line, on_line, before, text_measures, file_measures}
+use Rattle.fault_lines.specs.Locations.{at_line, on_line}
+use Rattle.text_report.specs.Reading.{before, text_measures, file_measures}
 use Rattle.text_report.specs.Report.{told}
 use Rattle.text_report.specs.declared.faults.FileFault.{FileFault}
-use Rattle.text_report.specs.declared.faults.Located.{Located}
+use Rattle.text_report.specs.Faults.{Located}
 use Rattle.text_report.specs.declared.texts.Measured.{Measured}
 
 -- an outcome, taken apart

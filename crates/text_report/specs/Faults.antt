@@ -1,23 +1,18 @@
 -- How a fault is told: its layer, its line, its cause and its place. Assumes nothing.
---     layer_word l    the word for the layer l
 --     layer_of f      the layer that refuses
 --     cause_of f      the number of the cause
 --     place_of f      the offset in the line, or 0
---     field n         a space and then the number n
+--     Located         a fault on a line of the file
 --     fault_line x    the line that is printed of a fault
-use Rattle.std.specs.Prelude.{ℕ, List, [], ◌∷◌, ◌++◌, codes, decimal}
-use Rattle.lexer.specs.Bytes.{space, line_end}
+use Rattle.std.specs.Prelude.{ℕ, List}
+use Rattle.fault_lines.specs.Tellings as tellings
+use Rattle.fault_lines.specs.declared.layers.Layer.{Layer}
+use Rattle.fault_lines.specs.declared.layers.Layer.TheVariants.{File, Text}
+use Rattle.fault_lines.specs.declared.locations.Located as locations
 use Rattle.lexer.specs.Causes.{cause_number}
 use Rattle.text.specs.Fault as text
 use Rattle.text_report.specs.declared.faults.FileFault.{FileFault}
 use Rattle.text_report.specs.declared.faults.FileFault.TheVariants.{Form, Measuring, NoMetric}
-use Rattle.text_report.specs.declared.faults.Layer.{Layer}
-use Rattle.text_report.specs.declared.faults.Layer.TheVariants.{File, Text}
-use Rattle.text_report.specs.declared.faults.Located.{Located}
-
-abbrev pub layer_word : Layer → List ℕ
-layer_word File = codes "file"
-layer_word Text = codes "text"
 
 abbrev pub layer_of : FileFault → Layer
 layer_of (Form _) = File
@@ -34,11 +29,8 @@ place_of (Form f) = f.place
 place_of (Measuring f) = text.place_of f
 place_of NoMetric = 0
 
-abbrev pub field : ℕ → List ℕ
-field n = space ∷ decimal n
+abbrev pub Located : Type 0
+Located = locations.Located FileFault
 
 abbrev pub fault_line : Located → List ℕ
-fault_line x =
-    codes "fault "
-    ++ (layer_word (layer_of x.fault)
-    ++ (field x.line ++ (field (cause_of x.fault) ++ (field (place_of x.fault) ++ (line_end ∷ [])))))
+fault_line x = tellings.fault_line (tellings.told (layer_of x.fault) x.line (cause_of x.fault) (place_of x.fault))

@@ -9,15 +9,14 @@ use Rattle.std.specs.Prelude.{◌≡◌, ℕ, ◌+◌, ◌-◌, ◌<◌, ◌≤�
 use Rattle.lexer.specs.Lines.{FileLine, file_line, file_lines}
 use Rattle.text.specs.Fault.{text_fault}
 use Rattle.text.specs.declared.faults.TextFault.TheVariants.{Memory}
-use Rattle.text_report.specs.Faults.{fault_line}
+use Rattle.text_report.specs.Faults.{fault_line, Located}
 use Rattle.text_report.specs.Headings.{advances_of}
 use Rattle.text_report.specs.Measures.{most_words, most_cells, text_measure}
 use Rattle.text_report.specs.Printing.{listed}
-use Rattle.text_report.specs.Reading.{at_line}
+use Rattle.fault_lines.specs.Locations.{at_line}
 use Rattle.text_report.specs.Report.{report_of}
 use Rattle.text_report.specs.declared.faults.FileFault.{FileFault}
 use Rattle.text_report.specs.declared.faults.FileFault.TheVariants.{NoMetric}
-use Rattle.text_report.specs.declared.faults.Located.{Located}
 use Rattle.text_report.specs.declared.texts.Measured.{Measured}
 
 abbrev pub no_line : FileLine

@@ -6,17 +6,16 @@
 --     measure_of adv n text    what the text on line n of the file measures to, where it is not refused
 --     text_measure adv n l     the same of the line l, or why it is refused
 --     text_line m              the line that is printed of it
-use Rattle.std.specs.Prelude.{ℕ, ◌+◌, ◌-◌, ◌*◌, cond, List, [], ◌∷◌, ◌++◌, length, Some, None, Ok, Err, codes, sum_by, Option, Result}
+use Rattle.std.specs.Prelude.{ℕ, ◌+◌, ◌-◌, ◌*◌, List, [], ◌∷◌, ◌++◌, length, Some, None, Ok, Err, codes, sum_by, Option, Result}
 use Rattle.lexer.specs.Bytes.{line_end}
-use Rattle.lexer.specs.Forms.{fault}
+use Rattle.lexer.specs.Forms.{closing}
 use Rattle.lexer.specs.Lines.{FileLine}
-use Rattle.lexer.specs.declared.faults.Cause.TheVariants.{Field}
 use Rattle.lexer.specs.declared.faults.Fault.{Fault}
 use Rattle.text.specs.Fault.{or_else, long_fault, byte_fault}
 use Rattle.text.specs.Measure.{measured, space_byte}
 use Rattle.text.specs.declared.faults.TextFault.{TextFault}
 use Rattle.words.specs.Words.{words_of}
-use Rattle.text_report.specs.Faults.{field}
+use Rattle.fault_lines.specs.Fields.{field}
 use Rattle.text_report.specs.Onward.{onward}
 use Rattle.text_report.specs.declared.faults.FileFault.{FileFault}
 use Rattle.text_report.specs.declared.faults.FileFault.TheVariants.{Form, Measuring}
@@ -30,7 +29,7 @@ abbrev pub most_cells : ℕ
 most_cells = 8192
 
 abbrev pub line_ending : FileLine → Result (Unit {0}) Fault
-line_ending l = cond l.ended (Ok tt) (Err (fault Field (length l.bytes)))
+line_ending l = closing l.ended l.bytes
 
 abbrev pub unless : Option TextFault → Result (Unit {0}) TextFault
 unless None = Ok tt

@@ -6,7 +6,7 @@
 use Rattle.std.specs.Prelude.{ℕ, List, [], ◌∷◌, ◌++◌, length, codes, sum_by}
 use Rattle.lexer.specs.Bytes.{line_end}
 use Rattle.std.specs.List.{flat_map}
-use Rattle.text_report.specs.Faults.{field}
+use Rattle.fault_lines.specs.Fields.{field}
 use Rattle.text_report.specs.Measures.{text_line}
 use Rattle.text_report.specs.declared.printing.Total.{Total}
 use Rattle.text_report.specs.declared.texts.Measured.{Measured}

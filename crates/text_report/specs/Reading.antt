@@ -1,23 +1,15 @@
 -- What the lines of a file measure to. Assumes nothing.
---     on_line n r              r, with its fault told to be on line n
 --     text_measures adv n ls   what the texts on the lines ls measure to, the first of which is line n of the file
 --     file_measures ls         what the texts of a file with the lines ls measure to: the first line is its metric line
 use Rattle.std.specs.Prelude.{ℕ, ◌+◌, List, [], ◌∷◌, Ok, Err, Result}
+use Rattle.fault_lines.specs.Locations.{at_line, on_line}
 use Rattle.lexer.specs.Lines.{FileLine}
 use Rattle.text_report.specs.Headings.{advances_of}
 use Rattle.text_report.specs.Measures.{text_measure}
 use Rattle.text_report.specs.Onward.{onward}
-use Rattle.text_report.specs.declared.faults.FileFault.{FileFault}
 use Rattle.text_report.specs.declared.faults.FileFault.TheVariants.{NoMetric}
-use Rattle.text_report.specs.declared.faults.Located.{Located}
+use Rattle.text_report.specs.Faults.{Located}
 use Rattle.text_report.specs.declared.texts.Measured.{Measured}
-
-abbrev pub at_line : ℕ → FileFault → Located
-at_line n f = record { line = n; fault = f }
-
-abbrev pub on_line : {A : Type 0} → ℕ → Result A FileFault → Result A Located
-on_line n (Ok a) = Ok a
-on_line n (Err f) = Err (at_line n f)
 
 -- the first fault, or all
 abbrev pub before : Result Measured Located → Result (List Measured) Located → Result (List Measured) Located

@@ -3,10 +3,9 @@
 --     report_of file   the report of the file
 use Rattle.std.specs.Prelude.{ℕ, List, Ok, Err, Result}
 use Rattle.lexer.specs.Lines.{file_lines}
-use Rattle.text_report.specs.Faults.{fault_line}
+use Rattle.text_report.specs.Faults.{fault_line, Located}
 use Rattle.text_report.specs.Printing.{listed}
 use Rattle.text_report.specs.Reading.{file_measures}
-use Rattle.text_report.specs.declared.faults.Located.{Located}
 use Rattle.text_report.specs.declared.texts.Measured.{Measured}
 
 abbrev pub told : Result (List Measured) Located → List ℕ

@@ -1,20 +1,15 @@
 // Why a file is refused, and on which line.
-ghost use Rattle.std.specs.Prelude.{◌≡◌, Some};
+ghost use Rattle.std.specs.Prelude.{◌≡◌};
 ghost use Rattle.text.specs.declared.faults.TextFault.TheVariants.{Metrics};
 ghost use Rattle.text_report.specs.declared.faults.FileFault.TheVariants.{Form, Measuring};
-ghost use Rattle.text_report.specs.Faults.{layer_word, layer_of, cause_of, place_of, fault_line};
+ghost use Rattle.text_report.specs.Faults.{layer_of, cause_of, place_of};
 
+use fault_lines::layers::Layer;
+use fault_lines::locations;
+use fault_lines::tellings::Reason;
 use lexer::faults::Fault;
 use metrics::Unfit;
-use std::fmt;
-use text::TextFault;
-
-// The part of the program that refuses.
-#[derive(Clone, Copy)]
-pub enum Layer {
-    File,
-    Text,
-}
+use text::{TextFault, Unmeasured};
 
 // Why a line is refused; each layer's own fault is kept as it is.
 #[derive(Clone, Copy)]
@@ -43,6 +38,14 @@ impl From<TextFault> for FileFault {
     }
 }
 
+impl From<Unmeasured<'_>> for FileFault {
+    ghost from_gives = { λ x y. y ≡ Measuring x.fault };
+
+    fn from(back: Unmeasured<'_>) -> FileFault {
+        FileFault::Measuring(back.fault)
+    }
+}
+
 impl From<Unfit> for FileFault {
     ghost from_gives = { λ _ y. y ≡ Measuring Metrics };
 
@@ -51,21 +54,21 @@ impl From<Unfit> for FileFault {
     }
 }
 
-impl FileFault {
-    // The layer that refuses.
-    pub fn layer(self) -> Layer
-        ensures { result ≡ layer_of self }
-    {
+impl Reason for FileFault {
+    ghost layer_of = { layer_of };
+
+    ghost cause_of = { cause_of };
+
+    ghost place_of = { place_of };
+
+    fn layer(&self) -> Layer {
         match self {
             FileFault::Form(_) | FileFault::NoMetric => Layer::File,
             FileFault::Measuring(_) => Layer::Text,
         }
     }
 
-    // The number by which the cause is reported.
-    pub fn cause(self) -> u8
-        ensures { result ≡ cause_of self }
-    {
+    fn cause(&self) -> u8 {
         match self {
             FileFault::Form(fault) => fault.cause.number(),
             FileFault::Measuring(fault) => fault.cause(),
@@ -74,9 +77,7 @@ impl FileFault {
     }
 
     // The offset in the line at which the fault lies, or 0 where it lies in no one place.
-    pub fn place(self) -> usize
-        ensures { result ≡ place_of self }
-    {
+    fn place(&self) -> usize {
         match self {
             FileFault::Form(fault) => fault.place,
             FileFault::Measuring(fault) => fault.place(),
@@ -86,31 +87,4 @@ impl FileFault {
 }
 
 // The first fault of a file: the line, counted from 1, and why it is refused.
-#[derive(Clone, Copy)]
-pub struct Located {
-    pub line: usize,
-    pub fault: FileFault,
-}
-
-impl fmt::Display for Layer {
-    ghost output = { λ layer. Some (layer_word layer) };
-
-    fn fmt<W: fmt::Write>(&self, f: &mut fmt::Formatter<W>) -> fmt::Result {
-        match self {
-            Layer::File => write!(f, "file"),
-            Layer::Text => write!(f, "text"),
-        }
-    }
-}
-
-impl fmt::Display for Located {
-    ghost output = { λ x. Some (fault_line x) };
-
-    fn fmt<W: fmt::Write>(&self, f: &mut fmt::Formatter<W>) -> fmt::Result {
-        let layer = self.fault.layer();
-        let line = self.line;
-        let cause = self.fault.cause();
-        let place = self.fault.place();
-        write!(f, "fault {layer} {line} {cause} {place}\n")
-    }
-}
+pub type Located = locations::Located<FileFault>;

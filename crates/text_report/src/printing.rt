@@ -28,13 +28,9 @@ fn sum(texts: &[Measured]) -> Total
     requires { words_in texts.now < 2 ^ 64 }
     ensures { result ≡ total_of texts.now }
 {
-    let mut words = 0;
-    for text in texts {
-        words += text.words;
-    }
     Total {
         texts: texts.len(),
-        words,
+        words: texts.iter().map(|text| text.words).sum(),
     }
 }
 
@@ -45,11 +41,9 @@ pub(crate) fn list(heap: Global, texts: &[Measured]) -> Result<String, AllocErro
 {
     let mut out = String::new(heap);
     for text in texts {
-        let line = format!(in heap; "{text}")?;
-        out.push_str(line.as_str())?;
+        write!(out, "{text}")?;
     }
     let total = sum(texts);
-    let last = format!(in heap; "{total}")?;
-    out.push_str(last.as_str())?;
+    write!(out, "{total}")?;
     Ok(out)
 }

@@ -4,6 +4,7 @@ ghost use Rattle.text_report.specs.Report.{report_of};
 
 use crate::printing::list;
 use crate::reading::{Stop, measures};
+use fault_lines::tellings::FaultLine;
 use std::alloc::{AllocError, Global};
 
 // What is reported of a file: a line for each of its texts and the total, or its first fault alone.
@@ -13,7 +14,7 @@ pub fn report(heap: Global, file: &[u8]) -> Result<String, AllocError>
 {
     match measures(heap, file) {
         Ok(texts) => list(heap, texts.as_slice()),
-        Err(Stop::Refused(fault)) => format!(in heap; "{fault}"),
-        Err(Stop::Memory) => Err(AllocError),
+        Err(Stop::Refused(located)) => format!(in heap; "{}", FaultLine::from(located)),
+        Err(Stop::Memory(error)) => Err(error),
     }
 }

@@ -1,14 +1,13 @@
 // One text line: what it measures to.
 ghost use Rattle.std.specs.Prelude.{◌≡◌, ◌≤◌, length, Some};
 ghost use Rattle.lexer.specs.LinesLeft.{line_of};
-ghost use Rattle.text_report.specs.Measures.{most_words, most_cells, line_ending, refused, text_measure, text_line};
+ghost use Rattle.text_report.specs.Measures.{most_words, most_cells, text_measure, text_line};
 
 use crate::faults::FileFault;
-use lexer::faults::{Cause, Fault};
 use lexer::lines::Line;
 use metrics::advances::Metrics;
 use std::fmt;
-use text::{Run, TextFault, Word, fault, measure};
+use text::{Run, Text, Word};
 
 // What a text measures to: how many words it has, and how wide it is on one line; and on which line of the file it stands.
 #[derive(Clone, Copy)]
@@ -29,31 +28,6 @@ impl fmt::Display for Measured {
     }
 }
 
-// The line has its line end.
-fn ended(line: Line<'_>) -> Result<(), Fault>
-    ensures { result ≡ line_ending (line_of line.entry) }
-{
-    if line.ended {
-        return Ok(());
-    }
-    Err(Fault {
-        cause: Cause::Field,
-        place: line.bytes.len(),
-    })
-}
-
-// The text is one that is measured. With this much memory no text has too many words.
-fn accepted(text: &[u8], words: &[Word], cells: &[Run]) -> Result<(), TextFault>
-    requires records { most_words ≤ length words.now }
-    requires cells { most_cells ≤ length cells.now }
-    ensures { result ≡ refused text.now }
-{
-    match fault(text, words, cells) {
-        Some(fault) => Err(fault),
-        None => Ok(()),
-    }
-}
-
 // What the text on this line of the file measures to, in memory for the longest text.
 pub(crate) fn measure_text<M: Metrics>(
     metrics: &M,
@@ -66,9 +40,8 @@ pub(crate) fn measure_text<M: Metrics>(
     requires cells { most_cells ≤ length cells.old }
     ensures { result ≡ text_measure (M.advances metrics.now) number (line_of line.entry) }
 {
-    ended(line)?;
-    accepted(line.bytes, words, cells)?;
-    let text = measure(metrics, line.bytes, words, cells);
+    line.closed()?;
+    let text = Text::new(metrics, line.bytes, words, cells)?;
     let count = text.count();
     let width = text.fold(0, count).width(text.space());
     Ok(Measured {

@@ -2,7 +2,7 @@
 --     at_line n f   the fault f on line n
 --     on_line n r   r, with its fault told to be on line n
 use Rattle.std.specs.Prelude.{ℕ, Ok, Err, Result}
-use Rattle.faults.specs.declared.locations.Located.{Located}
+use Rattle.fault_lines.specs.declared.locations.Located.{Located}
 
 abbrev pub at_line : {F : Type 0} → ℕ → F → Located F
 at_line n f = record { line = n; fault = f }

@@ -1,8 +1,8 @@
 -- The names of the layers. Assumes nothing.
 --     layer_word l   the word for the layer l
 use Rattle.std.specs.Prelude.{ℕ, List, codes}
-use Rattle.faults.specs.declared.layers.Layer.{Layer}
-use Rattle.faults.specs.declared.layers.Layer.TheVariants.{File, Text, Sheet}
+use Rattle.fault_lines.specs.declared.layers.Layer.{Layer}
+use Rattle.fault_lines.specs.declared.layers.Layer.TheVariants.{File, Text, Sheet}
 
 abbrev pub layer_word : Layer → List ℕ
 layer_word File = codes "file"

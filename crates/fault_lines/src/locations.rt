@@ -1,6 +1,6 @@
 // A fault with the line that it lies on.
 ghost use Rattle.std.specs.Prelude.{◌≡◌};
-ghost use Rattle.faults.specs.Locations.{on_line};
+ghost use Rattle.fault_lines.specs.Locations.{on_line};
 
 // A fault, and the line of the file that it lies on, counted from 1.
 #[derive(Clone, Copy, PartialEq, Eq, Debug)]

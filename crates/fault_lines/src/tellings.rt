@@ -1,7 +1,7 @@
 // What is told of a fault, and the line that is printed of it.
 ghost use Rattle.std.specs.Prelude.{◌≡◌, ℕ, Some};
-ghost use Rattle.faults.specs.declared.layers.Layer.{Layer};
-ghost use Rattle.faults.specs.Tellings.{told, fault_line};
+ghost use Rattle.fault_lines.specs.declared.layers.Layer.{Layer};
+ghost use Rattle.fault_lines.specs.Tellings.{told, fault_line};
 
 use crate::layers::Layer;
 use crate::locations::Located;

@@ -1,5 +1,5 @@
 // A fault of a text, told on its line.
-ghost use Rattle.faults.specs.declared.layers.Layer.TheVariants.{Text};
+ghost use Rattle.fault_lines.specs.declared.layers.Layer.TheVariants.{Text};
 
 use crate::layers::Layer;
 use crate::locations::on_line;

@@ -1,6 +1,6 @@
 // The parts of a program that refuse.
 ghost use Rattle.std.specs.Prelude.{Some};
-ghost use Rattle.faults.specs.Layers.{layer_word};
+ghost use Rattle.fault_lines.specs.Layers.{layer_word};
 
 use std::fmt;
 
