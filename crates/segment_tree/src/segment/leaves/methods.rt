@@ -1,5 +1,5 @@
 // What is done with leaves.
-ghost use Rattle.std.specs.Prelude.{◌≡◌, ◌*◌, ◌<◌, ◌≤◌, length, MatchOption, is_ok, nat_lt, slice_set};
+ghost use Rattle.std.specs.Prelude.{◌≡◌, ◌+◌, ◌*◌, ◌<◌, ◌≤◌, length, drop, MatchOption, is_ok, nat_lt, slice_set};
 ghost use Rattle.segment_tree.specs.LeafCount.{leaf_count};
 
 use super::Leaves;
@@ -32,6 +32,7 @@ impl<'a, E: Element> Leaves<'a, E> {
         ensures answer { is_ok result ≡ nat_lt i self.old.count }
         ensures kept { KeptLeaves self.old self.new }
         ensures after { laid self.new ≡ slice_set (laid self.old) i e }
+        ensures alone { i < self.old.count → self.new.cells.now ≡ slice_set self.old.cells.now (self.old.size + i) e }
         ensures refused { self.old.count ≤ i → self.new.cells.now ≡ self.old.cells.now }
     {
         if self.count <= i {
@@ -46,6 +47,7 @@ impl<'a, E: Element> Leaves<'a, E> {
     pub fn join_all(self) -> Tree<'a, E>
         ensures kept { KeptJoined self.entry result }
         ensures after { elements result ≡ laid self.entry }
+        ensures leaves { drop self.entry.size result.cells.now ≡ drop self.entry.size self.entry.cells.now }
     {
         let Leaves { cells, size, count } = self;
         work::join_all(cells, size);
