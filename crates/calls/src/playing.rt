@@ -23,57 +23,27 @@ const MOST_WORDS: usize = 4096;
 const MOST_RUNS: usize = 8192;
 
 // Adds a line to what is printed.
-fn put(heap: Global, out: &mut String, row: Row) -> Result<(), AllocError>
+fn put(out: &mut String, row: Row) -> Result<(), AllocError>
     ensures { OnOk result (string_bytes out.new ≡ string_bytes out.old ++ row_line row) }
 {
-    let line = format!(in heap; "{row}")?;
-    out.push_str(line.as_str())?;
-    Ok(())
+    write!(out, "{row}")
 }
 
 // Answers the lines before the first `sheet` line, and then that line's size, if there is such a line.
-fn skip(heap: Global, lines: &mut Lines<'_>, out: &mut String) -> Result<Option<Size>, AllocError>
+fn skip(lines: &mut Lines<'_>, out: &mut String) -> Result<Option<Size>, AllocError>
     ensures { IfOk result (λ o. IfSome o (λ s. s.places ≤ most_places)) }
 {
     for line in lines.by_ref() {
         if let Some(size) = size_of(line) {
             return Ok(Some(size));
         }
-        put(heap, out, Row::Answer(Ok(Reply::Skipped), None))?;
+        put(out, Row::Answer(Ok(Reply::Skipped), None))?;
     }
     Ok(None)
 }
 
-// Answers the lines that are left.
-fn answer(
-    heap: Global,
-    hand: &mut Hand<'_>,
-    lines: Lines<'_>,
-    out: &mut String,
-    words: &mut [Word],
-    runs: &mut [Run],
-) -> Result<(), AllocError> {
-    for line in lines {
-        put(heap, out, hand.turn(line, words, runs))?;
-    }
-    Ok(())
-}
-
-// The boxes of the sheet, in the order of its list, and what they come to.
-fn list_boxes(heap: Global, sheet: &Sheet<'_>, out: &mut String) -> Result<(), AllocError> {
-    for record in sheet.boxes() {
-        put(heap, out, Row::Box(*record))?;
-    }
-    put(heap, out, Row::Total(sheet.totals()))
-}
-
 // Answers the lines that are left, with memory for the longest text.
-fn answer_all(
-    heap: Global,
-    hand: &mut Hand<'_>,
-    lines: Lines<'_>,
-    out: &mut String,
-) -> Result<(), AllocError> {
+fn answer(hand: &mut Hand<'_>, lines: Lines<'_>, out: &mut String) -> Result<(), AllocError> {
     let mut words = [Word {
         place: 0,
         length: 0,
@@ -83,12 +53,23 @@ fn answer_all(
         advance: 0,
         count: 0,
     }; MOST_RUNS];
-    answer(heap, hand, lines, out, &mut words, &mut runs)
+    for line in lines {
+        put(out, hand.turn(line, &mut words, &mut runs))?;
+    }
+    Ok(())
+}
+
+// The boxes of the sheet, in the order of its list, and what they come to.
+fn list_boxes(sheet: &Sheet<'_>, out: &mut String) -> Result<(), AllocError> {
+    for record in sheet.boxes() {
+        put(out, Row::Box(*record))?;
+    }
+    put(out, Row::Total(sheet.totals()))
 }
 
 // Makes a sheet of this size, with cells for the highest one, answers the `sheet` line and then those that are left, and
 // lists the boxes. A slip in hand has to be spent, also where there is no memory left for what is printed.
-fn lay_out(heap: Global, size: Size, lines: Lines<'_>, out: &mut String) -> Result<(), AllocError>
+fn lay_out(size: Size, lines: Lines<'_>, out: &mut String) -> Result<(), AllocError>
     requires { size.places ≤ most_places }
 {
     let mut cells = [Reach {
@@ -107,25 +88,25 @@ fn lay_out(heap: Global, size: Size, lines: Lines<'_>, out: &mut String) -> Resu
     let height = u32::from(size.height);
     let line = u32::from(size.line);
     let places = usize::from(size.places);
-    let answer = match fault(width, height, line, cells.len()) {
+    let first = match fault(width, height, line, cells.len()) {
         None => Ok(Reply::Sheet),
         Some(refusal) => Err(Denied::Call(refusal)),
     };
-    put(heap, out, Row::Answer(answer, None))?;
+    put(out, Row::Answer(first, None))?;
     let sheet = Sheet::new(width, height, line, &mut cells, &mut list[0..places]);
     let mut hand = Hand::new(sheet);
-    let printed = answer_all(heap, &mut hand, lines, out);
+    let printed = answer(&mut hand, lines, out);
     let sheet = hand.finish();
     printed?;
-    list_boxes(heap, &sheet, out)
+    list_boxes(&sheet, out)
 }
 
 // What is printed of a script: a line for each of its lines. The one other answer is that there is no memory left.
 pub(crate) fn play(heap: Global, script: &[u8]) -> Result<String, AllocError> {
     let mut lines = Lines::new(script);
     let mut out = String::new(heap);
-    if let Some(size) = skip(heap, &mut lines, &mut out)? {
-        lay_out(heap, size, lines, &mut out)?;
+    if let Some(size) = skip(&mut lines, &mut out)? {
+        lay_out(size, lines, &mut out)?;
     }
     Ok(out)
 }

@@ -7,30 +7,21 @@ use metrics::tables::Table;
 use std::test::Fail;
 use text::{Room, Run, Word, fault, measure};
 use words::alphabet::bad_byte;
-use words::spans::{count, next_word, word_end};
-
-const NO_WORD: Word = Word {
-    place: 0,
-    length: 0,
-    advance: 0,
-};
-
-const NO_RUN: Run = Run {
-    advance: 0,
-    count: 0,
-};
+use words::spans::{Span, count, next_word, word_end};
 
 #[test]
-fn words_of_a_text(rt: HostRuntime) -> Result<(), Fail> {
+fn words_of_a_text(rt: HostRuntime) {
     let text = b" one  two ";
     assert_eq!(rt; count(text), 2);
     assert_eq!(rt; word_end(text, 1), 4);
-    let second = next_word(text, 4).ok_or("a second word")?;
-    assert!(rt; second.place == 6 && second.length == 3);
+    let second = Span {
+        place: 6,
+        length: 3,
+    };
+    assert_eq!(rt; next_word(text, 4), Some(second));
     assert!(rt; next_word(text, 9).is_none());
     assert!(rt; bad_byte(text).is_none());
     assert_eq!(rt; bad_byte(b"a\tb"), Some(1));
-    Ok(())
 }
 
 #[test]
@@ -40,17 +31,15 @@ fn advances_are_rounded(rt: HostRuntime) -> Result<(), Fail> {
     assert_eq!(rt; rounded(250), 0);
     assert!(rt; Cell::new(255).is_ok() && Cell::new(256).is_err() && Cell::new(0).is_err());
     assert!(rt; Table::new(&[500], 10).is_err() && Table::house(121).is_err());
-    let Ok(house) = Table::house(9) else {
-        return Err(Fail::new("9 is a size"));
-    };
+    let house = Table::house(9)?;
     assert_eq!(rt; house.advance(b'n'), 5);
     Ok(())
 }
 
 #[test]
 fn a_text_is_refused_before_it_is_measured(rt: HostRuntime) -> Result<(), Fail> {
-    let words = [NO_WORD; 1];
-    let runs = [NO_RUN; 2];
+    let words = [Word::default(); 1];
+    let runs = [Run::default(); 2];
     assert!(rt; fault(b"one", &words, &runs).is_none());
     let bad = fault(b"o\tne", &words, &runs).ok_or("a bad byte")?;
     assert!(rt; bad.cause() == 5 && bad.place() == 1);
@@ -61,11 +50,9 @@ fn a_text_is_refused_before_it_is_measured(rt: HostRuntime) -> Result<(), Fail> 
 
 #[test]
 fn words_that_have_room(rt: HostRuntime) -> Result<(), Fail> {
-    let Ok(metrics) = Cell::new(5) else {
-        return Err(Fail::new("5 is an advance"));
-    };
-    let mut words = [NO_WORD; 3];
-    let mut runs = [NO_RUN; 8];
+    let metrics = Cell::new(5)?;
+    let mut words = [Word::default(); 3];
+    let mut runs = [Run::default(); 8];
     let text = measure(&metrics, b"one two three", &mut words, &mut runs);
     assert_eq!(rt; text.count(), 3);
     assert_eq!(rt; text.fold(0, 3).width(text.space()), 65);

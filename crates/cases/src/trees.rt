@@ -1,12 +1,7 @@
 // Trees of joins.
-use segment_tree::{Tree, enough};
+use segment_tree::{Leaves, NoElement, Tree, enough};
 use std::test::Fail;
 use text::{Room, Run};
-
-const NONE: Run = Run {
-    advance: 0,
-    count: 0,
-};
 
 fn word(advance: u32) -> Run {
     Run { advance, count: 1 }
@@ -14,11 +9,13 @@ fn word(advance: u32) -> Run {
 
 #[test]
 fn what_is_set_is_joined(rt: HostRuntime) -> Result<(), Fail> {
-    let mut cells = [NONE; 9];
+    let mut cells = [Run::default(); 9];
     let mut tree = Tree::new(&mut cells, 3).ok_or("nine cells are enough")?;
     assert_eq!(rt; tree.count(), 3);
-    assert!(rt; tree.set(0, word(15)) && tree.set(1, word(20)) && tree.set(2, word(25)));
-    assert!(rt; !tree.set(3, word(30)));
+    tree.set(0, word(15))?;
+    tree.set(1, word(20))?;
+    tree.set(2, word(25))?;
+    assert_eq!(rt; tree.set(3, word(30)), Err(NoElement));
     assert_eq!(rt; tree.fold(0, 3).advance, 60);
     assert_eq!(rt; tree.fold(1, 9).count, 2);
     assert_eq!(rt; tree.fold(2, 2).count, 0);
@@ -47,11 +44,12 @@ fn what_is_set_is_joined(rt: HostRuntime) -> Result<(), Fail> {
 
 #[test]
 fn laid_and_then_joined(rt: HostRuntime) -> Result<(), Fail> {
-    let mut cells = [NONE; 4];
-    let mut tree = Tree::new(&mut cells, 2).ok_or("four cells are enough")?;
-    assert!(rt; tree.lay(0, word(1)) && tree.lay(1, word(2)));
-    assert!(rt; !tree.lay(2, word(3)));
-    tree.join_all();
+    let mut cells = [Run::default(); 4];
+    let mut leaves = Leaves::new(&mut cells, 2).ok_or("four cells are enough")?;
+    leaves.lay(0, word(1))?;
+    leaves.lay(1, word(2))?;
+    assert_eq!(rt; leaves.lay(2, word(3)), Err(NoElement));
+    let tree = leaves.join_all();
     assert_eq!(rt; tree.fold(0, 2).advance, 3);
     Ok(())
 }
@@ -60,7 +58,7 @@ fn laid_and_then_joined(rt: HostRuntime) -> Result<(), Fail> {
 fn two_cells_for_each_leaf(rt: HostRuntime) {
     assert!(rt; enough(8, 3) && !enough(7, 3));
     assert!(rt; enough(2, 1) && enough(2, 0) && !enough(1, 0));
-    let mut cells = [NONE; 7];
+    let mut cells = [Run::default(); 7];
     assert!(rt; Tree::new(&mut cells, 4).is_none());
     assert_eq!(rt; Tree::vacant(&mut cells).count(), 0);
 }

@@ -1,7 +1,7 @@
 -- Reaches keep the laws of a kind of element. Assumes nothing.
-use Rattle.std.specs.Prelude.{◌≡◌, ℕ, ◌≤◌}
-use Rattle.std.proofs.Common.{arith}
-use Rattle.std.proofs.lemmas.Bool.{leb-true, le-leb}
+use Rattle.std.specs.Prelude.{◌≡◌, ℕ, ◌≤◌, true, ◌&&◌, ◌↔◌, nat_eq}
+use Rattle.std.proofs.Common.{ap, arith}
+use Rattle.std.proofs.lemmas.Bool.{leb-true, le-leb, eqb-true, eq-eqb, and_parts, and_from}
 use Rattle.segment_tree.specs.Joins.{Laws}
 use Rattle.places.specs.declared.parts.Span.{Span}
 use Rattle.places.specs.Bands.{room}
@@ -28,3 +28,20 @@ reach_laws = record {
       let less = less_left l.gap.of l.gap.width l.gap.margins x y in
       le-leb l.need (room (left_over l.gap.of l.gap.width l.gap.margins x)) (omega arith);
 }
+
+-- whether two reaches are the same, number by number
+pub reach_equals : (x y : Reach) → (nat_eq x.box_left y.box_left && (nat_eq x.box_right y.box_right && (nat_eq x.area_left y.area_left && nat_eq x.area_right y.area_right)) ≡ true) ↔ (x ≡ y)
+reach_equals x y =
+    let a = nat_eq x.box_left y.box_left in
+    let b = nat_eq x.box_right y.box_right in
+    let c = nat_eq x.area_left y.area_left in
+    let d = nat_eq x.area_right y.area_right in
+    (
+  λ e. let p = and_parts a (b && (c && d)) e in
+      let q = and_parts b (c && d) p.1 in
+      let r = and_parts c d q.1 in
+      same _ _ _ _ _ _ _ _ (eqb-true x.box_left y.box_left p.0) (eqb-true x.box_right y.box_right q.0) (eqb-true x.area_left y.area_left r.0) (eqb-true x.area_right y.area_right r.1),
+  λ e. and_from a (b && (c && d)) (eq-eqb x.box_left y.box_left (ap (λ (r : Reach). r.box_left) e))
+      (and_from b (c && d) (eq-eqb x.box_right y.box_right (ap (λ (r : Reach). r.box_right) e))
+      (and_from c d (eq-eqb x.area_left y.area_left (ap (λ (r : Reach). r.area_left) e)) (eq-eqb x.area_right y.area_right (ap (λ (r : Reach). r.area_right) e)))),
+)

@@ -1,8 +1,7 @@
 // The reach of some rows: four numbers that say what the panels there leave between any margins.
 ghost use Rattle.std.specs.Prelude.{◌≡◌};
 ghost use Rattle.reaches.specs.Reaches.{no_reach, farther, left_over, leaves_need};
-ghost use Rattle.std.proofs.Common.{rules};
-ghost use Rattle.reaches.specs.Laws.{reach_laws};
+ghost use Rattle.reaches.specs.Laws.{reach_laws, reach_equals};
 
 use places::parts::Span;
 use segment_tree::Element;
@@ -66,7 +65,7 @@ impl Element for Reach {
 
     ghost lawful = { reach_laws };
 
-    ghost exact = { Prim.search rules };
+    ghost exact = { reach_equals };
 
     fn empty() -> Reach {
         Reach::default()

@@ -1,5 +1,5 @@
 -- One text: its words together are one run, and it is measured where nothing refuses it. Assumes nothing.
-use Rattle.std.proofs.Common.{◌≡◌, ℕ, ◌-◌, ◌≤◌, List, [], map, length, Some, None, Ok, Err, Option, sym, refl, ap, ◌∙◌, arith}
+use Rattle.std.proofs.Common.{◌≡◌, ℕ, ◌-◌, ◌≤◌, List, [], map, length, Some, None, Ok, Err, sym, ap, ◌∙◌, arith}
 use Rattle.lexer.specs.Lines.{FileLine}
 use Rattle.metrics.specs.Advance.{Advances}
 use Rattle.segment_tree.specs.Joins.{total, fold_of}

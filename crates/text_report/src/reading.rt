@@ -1,9 +1,8 @@
 // All lines of a file, up to the first that is refused.
-ghost use Rattle.std.specs.Prelude.{◌≡◌, ◌+◌, ◌^◌, ◌<◌, ◌≤◌, length, alloc_error};
+ghost use Rattle.std.specs.Prelude.{◌≡◌, ◌+◌, ◌^◌, ◌<◌, length, alloc_error};
 ghost use Rattle.lexer.specs.Lines.{file_lines};
 ghost use Rattle.lexer.specs.LinesLeft.{left};
 ghost use Rattle.text_report.specs.declared.reading.Stop.TheVariants.{Refused, Memory};
-ghost use Rattle.text_report.specs.Measures.{most_words, most_cells};
 ghost use Rattle.text_report.specs.Reading.{text_measures, file_measures};
 ghost use Rattle.text_report.specs.Stops.{Tells};
 
@@ -14,12 +13,7 @@ use fault_lines::locations::on_line;
 use lexer::lines::Lines;
 use metrics::advances::Metrics;
 use std::alloc::{AllocError, AllocFailed, Global};
-use text::{Run, Word};
-
-// The records and the cells that the longest text may need.
-const MOST_WORDS: usize = 4096;
-
-const MOST_CELLS: usize = 8192;
+use text::{MOST_RUNS, MOST_WORDS, Run, Word};
 
 // Why the reading of a file stops.
 #[derive(Clone, Copy)]
@@ -46,23 +40,20 @@ impl<T: Drop> From<AllocFailed<T>> for Stop {
     }
 }
 
-// What the texts on the lines that are left measure to; the line before them is line 1 of the file.
-fn texts<M: Metrics>(
-    heap: Global,
-    metrics: &M,
-    lines: Lines<'_>,
-    words: &mut [Word],
-    cells: &mut [Run],
-) -> Result<Vec<Measured>, Stop>
-    requires few { 1 + length (left lines) < 2 ^ 64 }
-    requires records { most_words ≤ length words.old }
-    requires cells { most_cells ≤ length cells.old }
+// What the texts on the lines that are left measure to, in memory for the longest text; the line before them is line 1 of the file.
+fn texts<M: Metrics>(heap: Global, metrics: &M, lines: Lines<'_>) -> Result<Vec<Measured>, Stop>
+    requires { 1 + length (left lines) < 2 ^ 64 }
     ensures { Tells (text_measures (M.advances metrics.now) 2 (left lines.entry)) result }
 {
+    let mut words = [Word::default(); MOST_WORDS];
+    let mut cells = [Run::default(); MOST_RUNS];
     let mut texts = Vec::new(heap);
     for (before, line) in lines.enumerate() {
         let number = 2 + before;
-        let text = on_line(number, measure_text(metrics, number, line, words, cells))?;
+        let text = on_line(
+            number,
+            measure_text(metrics, number, line, &mut words, &mut cells),
+        )?;
         texts.push(text)?;
     }
     Ok(texts)
@@ -74,15 +65,6 @@ pub fn measures(heap: Global, file: &[u8]) -> Result<Vec<Measured>, Stop>
 {
     let mut lines = Lines::new(file);
     let first = on_line(1, lines.next().ok_or(FileFault::NoMetric))?;
-    let mut words = [Word {
-        place: 0,
-        length: 0,
-        advance: 0,
-    }; MOST_WORDS];
-    let mut cells = [Run {
-        advance: 0,
-        count: 0,
-    }; MOST_CELLS];
     let metrics = on_line(1, asked(first))?;
-    texts(heap, &metrics, lines, &mut words, &mut cells)
+    texts(heap, &metrics, lines)
 }
