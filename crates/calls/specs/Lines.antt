@@ -27,7 +27,7 @@ size_form l =
     (λ w q. take a_number l.bytes q
     (λ h r. take a_number l.bytes r
     (λ n s. take (number_within 0 most_places) l.bytes s
-    (λ k t. finish l.ended l.bytes t (record { width = w; height = h; line = n; places = k }))))))
+    (λ k t. finish l.ended l.bytes t (record { sheet = record { width = w; height = h; line = n }; places = k }))))))
 
 abbrev pub opening_form : FileLine → Result Opening Fault
 opening_form l =

@@ -3,13 +3,12 @@ use places::parts::Span;
 use scales::headings::MetricLine;
 use shapes::sides::{Clear, Side};
 use shapes::stairs::Steps;
+use sheet::sizes::SheetSize;
 
-// A new sheet: its width, its height, the height of its lines, and the places of its list.
+// A new sheet: its size, and the places of its list.
 #[derive(Clone, Copy)]
 pub struct Size {
-    pub width: u16,
-    pub height: u16,
-    pub line: u16,
+    pub sheet: SheetSize,
     pub places: u16,
 }
 

@@ -13,14 +13,10 @@ use rules::boxes::{BoxRecord, LineBox};
 use sheet::fault;
 use sheet::sheet::Sheet;
 use std::alloc::{AllocError, Global};
-use text::{Run, Word};
+use text::{MOST_RUNS, MOST_WORDS, Run, Word};
 
-// The cells that the highest sheet needs, and the records and cells that the longest text needs.
+// The cells that the highest sheet needs.
 const MOST_CELLS: usize = 8192;
-
-const MOST_WORDS: usize = 4096;
-
-const MOST_RUNS: usize = 8192;
 
 // Adds a line to what is printed.
 fn put(out: &mut String, row: Row) -> Result<(), AllocError>
@@ -44,15 +40,8 @@ fn skip(lines: &mut Lines<'_>, out: &mut String) -> Result<Option<Size>, AllocEr
 
 // Answers the lines that are left, with memory for the longest text.
 fn answer(hand: &mut Hand<'_>, lines: Lines<'_>, out: &mut String) -> Result<(), AllocError> {
-    let mut words = [Word {
-        place: 0,
-        length: 0,
-        advance: 0,
-    }; MOST_WORDS];
-    let mut runs = [Run {
-        advance: 0,
-        count: 0,
-    }; MOST_RUNS];
+    let mut words = [Word::default(); MOST_WORDS];
+    let mut runs = [Run::default(); MOST_RUNS];
     for line in lines {
         put(out, hand.turn(line, &mut words, &mut runs))?;
     }
@@ -72,28 +61,15 @@ fn list_boxes(sheet: &Sheet<'_>, out: &mut String) -> Result<(), AllocError> {
 fn lay_out(size: Size, lines: Lines<'_>, out: &mut String) -> Result<(), AllocError>
     requires { size.places ≤ most_places }
 {
-    let mut cells = [Reach {
-        box_left: 0,
-        box_right: 0,
-        area_left: 0,
-        area_right: 0,
-    }; MOST_CELLS];
-    let mut list = [BoxRecord::Line(LineBox {
-        x: 0,
-        y: 0,
-        width: 0,
-        words: 0,
-    }); MOST_PLACES as usize];
-    let width = u32::from(size.width);
-    let height = u32::from(size.height);
-    let line = u32::from(size.line);
+    let mut cells = [Reach::default(); MOST_CELLS];
+    let mut list = [BoxRecord::Line(LineBox::default()); MOST_PLACES as usize];
     let places = usize::from(size.places);
-    let first = match fault(width, height, line, cells.len()) {
+    let first = match fault(size.sheet, cells.len()) {
         None => Ok(Reply::Sheet),
         Some(refusal) => Err(Denied::Call(refusal)),
     };
     put(out, Row::Answer(first, None))?;
-    let sheet = Sheet::new(width, height, line, &mut cells, &mut list[0..places]);
+    let sheet = Sheet::new(size.sheet, &mut cells, &mut list[0..places]);
     let mut hand = Hand::new(sheet);
     let printed = answer(&mut hand, lines, out);
     let sheet = hand.finish();

@@ -1,7 +1,6 @@
 // What a line of a script is read as.
 ghost use Rattle.std.specs.Prelude.{◌≡◌, ◌≤◌, IfSome, IfOk};
 ghost use Rattle.lexer.specs.LinesLeft.{line_of};
-ghost use Rattle.shapes.specs.Staircase.{most_steps};
 ghost use Rattle.calls.specs.Lines.{most_places, size_form, opening_form, plain_form, said, passage_form, word_form};
 
 use crate::asks::{Ask, Opening, Passage, PlainPanel, Size, StairsPanel};
@@ -9,10 +8,12 @@ use lexer::faults::{Cause, Fault};
 use lexer::fields::Fields;
 use lexer::kinds::{Number, Within, Word};
 use lexer::lines::Line;
+use lines::flights::take_steps;
 use lines::names::{ClearName, SideName};
 use places::parts::Span;
 use scales::headings::metric_line;
-use shapes::stairs::{MOST_STEPS, Step, Steps};
+use shapes::stairs::MOST_STEPS;
+use sheet::sizes::SheetSize;
 
 // The most places of a list.
 pub const MOST_PLACES: u16 = 1024;
@@ -33,9 +34,11 @@ fn read_size(line: Line<'_>) -> Result<Size, Fault>
     })?;
     fields.end()?;
     Ok(Size {
-        width,
-        height,
-        line: rows,
+        sheet: SheetSize {
+            width: u32::from(width),
+            height: u32::from(height),
+            line: u32::from(rows),
+        },
         places,
     })
 }
@@ -94,28 +97,9 @@ fn read_passage<'a>(line: Line<'a>) -> Result<Passage<'a>, Fault>
     let mut fields = Fields::new(line);
     fields.take(&Word { text: b"text" })?;
     let from = fields.take(&Number)?;
-    let rest = fields.fault(Cause::Field);
-    let place = rest.place;
-    if place > line.bytes.len() {
-        return Err(rest);
-    }
-    Ok(Passage {
-        from,
-        bytes: &line.bytes[place..],
-    })
-}
-
-// The rows and the extents of so many steps.
-fn read_steps(fields: &mut Fields<'_>, count: u16) -> Result<Steps, Fault>
-    requires { count ≤ most_steps }
-{
-    let mut steps = Steps::default();
-    for _ in 0..count {
-        let rows = fields.take(&Number)?;
-        let extent = fields.take(&Number)?;
-        steps.push(Step { rows, extent });
-    }
-    Ok(steps)
+    let missing = fields.fault(Cause::Field);
+    let bytes = line.bytes.get(missing.place..).ok_or(missing)?;
+    Ok(Passage { from, bytes })
 }
 
 // `steps SIDE CLEAR K W`, and then the rows and the extent of each of the K steps
@@ -129,7 +113,7 @@ fn read_stairs(line: Line<'_>) -> Result<StairsPanel, Fault> {
         high: MOST_STEPS as u16,
     })?;
     let width = fields.take(&Number)?;
-    let steps = read_steps(&mut fields, count)?;
+    let steps = take_steps(&mut fields, count)?;
     fields.end()?;
     Ok(StairsPanel {
         side,
@@ -142,8 +126,8 @@ fn read_stairs(line: Line<'_>) -> Result<StairsPanel, Fault> {
 // The line with its line end: the last line counts with or without it.
 fn whole<'a>(line: Line<'a>) -> Line<'a> {
     Line {
-        bytes: line.bytes,
         ended: true,
+        ..line
     }
 }
 

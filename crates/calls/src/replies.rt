@@ -12,7 +12,7 @@ use rules::refusals::Refusal;
 use shapes::NoShape;
 use sheet::answers::Flowed;
 use std::fmt;
-use text::TextFault;
+use text::{TextFault, Unmeasured};
 
 // What a line of a script is answered.
 #[derive(Clone, Copy)]
@@ -65,11 +65,11 @@ impl From<NoShape> for Denied {
     }
 }
 
-impl From<TextFault> for Denied {
-    ghost from_gives = { λ x y. y ≡ Text x };
+impl From<Unmeasured<'_>> for Denied {
+    ghost from_gives = { λ x y. y ≡ Text x.fault };
 
-    fn from(fault: TextFault) -> Denied {
-        Denied::Text(fault)
+    fn from(back: Unmeasured<'_>) -> Denied {
+        Denied::Text(back.fault)
     }
 }
 

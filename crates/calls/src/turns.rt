@@ -27,7 +27,7 @@ use shapes::stairs::Stairs;
 use shapes::{NoShape, Shape};
 use sheet::sheet::Sheet;
 use sheet::slips::Slip;
-use text::{Run, Word, fault, measure};
+use text::{Run, Text, Word};
 
 // Places a panel of this shape, if the numbers made one.
 fn place<S: Shape + Drop>(
@@ -70,10 +70,7 @@ fn flow<M: Metrics>(
     ensures number { open_number sheet.new ≡ open_number sheet.old }
     ensures told { Flows (text_fault passage.entry.bytes.now (length words.old) (length runs.old)) (advances_of (M.advances metrics.now) passage.entry.bytes.now) ((M.advances metrics.now) space_byte) passage.entry.from result sheet.old sheet.new }
 {
-    if let Some(fault) = fault(passage.bytes, words, runs) {
-        return Err(fault.into());
-    }
-    let text = measure(metrics, passage.bytes, words, runs);
+    let text = Text::new(metrics, passage.bytes, words, runs)?;
     Ok(Reply::Flowed(sheet.flow(&text, usize::from(passage.from))))
 }
 

@@ -4,12 +4,12 @@ use Rattle.lexer.specs.Bytes.{line_end}
 use Rattle.std.specs.List.{flat_map}
 use Rattle.std.proofs.lemmas.Fmt.{length-decimal-le}
 use Rattle.std.proofs.lemmas.List.{length-append}
-use Rattle.faults.specs.Layers.{layer_word}
-use Rattle.faults.specs.Tellings.{fault_line}
-use Rattle.faults.specs.Fields.{field}
-use Rattle.faults.specs.declared.tellings.FaultLine.{FaultLine}
-use Rattle.faults.specs.declared.layers.Layer.{Layer}
-use Rattle.faults.specs.declared.layers.Layer.TheVariants.{File, Text, Sheet}
+use Rattle.fault_lines.specs.Layers.{layer_word}
+use Rattle.fault_lines.specs.Tellings.{fault_line}
+use Rattle.fault_lines.specs.Fields.{field}
+use Rattle.fault_lines.specs.declared.tellings.FaultLine.{FaultLine}
+use Rattle.fault_lines.specs.declared.layers.Layer.{Layer}
+use Rattle.fault_lines.specs.declared.layers.Layer.TheVariants.{File, Text, Sheet}
 
 field_short : (n : ℕ) → n < 2 ^ 64 → length (field n) ≤ 21
 field_short n h = let e = length-decimal-le 20 n (omega arith) (omega arith) h in omega arith

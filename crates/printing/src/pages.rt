@@ -2,7 +2,7 @@
 // calls over no memory say how much of it is wanted.
 // This stands beside `fmt::Write` because the contract of `write!` leaves open when a writer may fail, and a page never does.
 ghost use Rattle.std.specs.Prelude.{◌≡◌, [], ◌∷◌, decimal};
-ghost use Rattle.faults.specs.Fields.{fields};
+ghost use Rattle.fault_lines.specs.Fields.{fields};
 ghost use Rattle.printing.specs.Laying.{laid};
 ghost use Rattle.printing.specs.Pages.{on};
 

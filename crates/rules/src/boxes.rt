@@ -17,7 +17,7 @@ pub struct PanelBox {
 }
 
 // A closed line's box: where it begins, how wide its words and spaces are, and how many words it has.
-#[derive(Clone, Copy, PartialEq, Eq, Debug)]
+#[derive(Clone, Copy, PartialEq, Eq, Default, Debug)]
 pub struct LineBox {
     pub x: u32,
     pub y: u32,

@@ -1,7 +1,7 @@
 use Rattle.std.proofs.Common.{[], ◌∷◌, get_or, decimal, sym, ◌∙◌}
 use Rattle.lexer.specs.Bytes.{space, line_end}
 use Rattle.std.specs.List.{flat_map}
-use Rattle.faults.specs.Fields.{field}
+use Rattle.fault_lines.specs.Fields.{field}
 use Rattle.printing.specs.Pages.{on}
 use Rattle.printing.proofs.Laid.{joins, part_more, part_all}
 use Rattle.printing.proofs.pages.Page.numbers.Goals as goal

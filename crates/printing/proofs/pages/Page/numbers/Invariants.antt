@@ -2,7 +2,7 @@ use Rattle.std.proofs.Common.{◌≡◌, drop}
 use Rattle.printing.specs.Laying.{laid}
 use Rattle.printing.specs.Pages.{on}
 use Rattle.std.specs.List.{flat_map}
-use Rattle.faults.specs.Fields.{field}
+use Rattle.fault_lines.specs.Fields.{field}
 use Rattle.printing.proofs.pages.Page.numbers.Given as goal
 
 abbrev pub invariant-loop-n : goal.invariant-loop-n

@@ -1,15 +1,15 @@
 // The line of a fault.
 ghost use Rattle.std.specs.Prelude.{◌≡◌, length};
-ghost use Rattle.faults.specs.Layers.{layer_word};
-ghost use Rattle.faults.specs.Tellings.{fault_line};
+ghost use Rattle.fault_lines.specs.Layers.{layer_word};
+ghost use Rattle.fault_lines.specs.Tellings.{fault_line};
 ghost use Rattle.printing.specs.Laying.{laid};
 ghost use Rattle.printing.specs.Outputs.{print_answer, print_kept};
 ghost use Rattle.printing.specs.Pages.{on};
 
 use crate::outputs::{Printable, ShortOutput, print_at_front, wanted};
 use crate::pages::Page;
-use faults::layers::Layer;
-use faults::tellings::FaultLine;
+use fault_lines::layers::Layer;
+use fault_lines::tellings::FaultLine;
 
 // Lays the word of a layer.
 fn layer_word(page: &mut Page<'_>, layer: Layer)

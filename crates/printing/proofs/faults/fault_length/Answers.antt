@@ -1,8 +1,8 @@
 use Rattle.std.proofs.Common.{◌≡◌, arith}
-use Rattle.faults.specs.Tellings.{fault_line}
+use Rattle.fault_lines.specs.Tellings.{fault_line}
 use Rattle.printing.specs.Laying.{counted}
 use Rattle.printing.proofs.Short.{fault_short}
-use Rattle.printing.proofs.fault_lines.fault_length.Goals as goal
+use Rattle.printing.proofs.faults.fault_length.Goals as goal
 
 pub returns : goal.returns
 returns c =
