@@ -5,3 +5,4 @@ pub mod Steps
 pub mod Stores
 pub mod Fresh
 pub mod Sheets
+pub mod Made

@@ -1,6 +1,15 @@
-// What flow answers, and what a sheet leaves.
+// What the calls of a sheet answer, and what it leaves.
+use reaches::reach::Reach;
 use rules::boxes::BoxRecord;
 use rules::refusals::Refusal;
+
+// Why no sheet is made, and the memory that was lent for it.
+#[derive(Debug, Drop)]
+pub struct Unmade<'a> {
+    pub refusal: Refusal,
+    pub cells: &'a mut [Reach],
+    pub list: &'a mut [BoxRecord],
+}
 
 // How many words were set, and why the next was not, if there is a next. It is no `Result`: both parts are wanted in both
 // cases.

@@ -1,7 +1,7 @@
 // The sheet: paragraphs, panels and lines over lent memory, each call bearing the law over all calls before it.
 #![tactic(auto)]
 
-// What flow answers, and what a sheet leaves.
+// What the calls of a sheet answer, and what it leaves.
 pub mod answers;
 
 // The bottoms of the panels of each side.

@@ -3,9 +3,10 @@ ghost use Rattle.std.specs.Prelude.{◌≡◌, Some};
 ghost use Rattle.sheet.specs.Sheets.{open_number};
 
 use metrics::cells::Cell;
-use places::parts::Span;
+use places::parts::{Place, Span};
 use reaches::reach::Reach;
 use rules::boxes::{BoxRecord, LineBox};
+use rules::refusals::Refusal;
 use shapes::orders::Order;
 use shapes::plain::Plain;
 use shapes::sides::{Clear, Side};
@@ -25,46 +26,12 @@ pub(crate) const SIZE: SheetSize = SheetSize {
 // The margins of a whole sheet.
 pub(crate) const WHOLE: Span = Span { from: 0, to: 100 };
 
-pub(crate) const NO_REACH: Reach = Reach {
-    box_left: 0,
-    box_right: 0,
-    area_left: 0,
-    area_right: 0,
-};
-
 pub(crate) const NO_BOX: BoxRecord = BoxRecord::Line(LineBox {
     x: 0,
     y: 0,
     width: 0,
     words: 0,
 });
-
-// What a call is answered.
-#[derive(Clone, Copy)]
-pub(crate) enum Told {
-    // The panel, or the line with the last word, stands here.
-    At(u32, u32),
-    // The number of the refusal.
-    Refused(u8),
-    // Nothing was set.
-    Nothing,
-}
-
-impl Told {
-    pub(crate) fn is_at(self, x: u32, y: u32) -> bool {
-        match self {
-            Told::At(a, b) => a == x && b == y,
-            _ => false,
-        }
-    }
-
-    pub(crate) fn is_refused(self, number: u8) -> bool {
-        match self {
-            Told::Refused(n) => n == number,
-            _ => false,
-        }
-    }
-}
 
 // Ends the open paragraph by its slip, which is never refused.
 pub(crate) fn spend(sheet: &mut Sheet<'_>, own: Slip)
@@ -76,23 +43,20 @@ pub(crate) fn spend(sheet: &mut Sheet<'_>, own: Slip)
     }
 }
 
-// Places a box.
+// Places a box, and answers where it stands, or the number of the refusal.
 pub(crate) fn place(
     sheet: &mut Sheet<'_>,
     side: Side,
     width: u32,
     height: u32,
     clear: Clear,
-) -> Told
+) -> Result<Place, u8>
     ensures { open_number sheet.new ≡ open_number sheet.old }
 {
-    let Ok(shape) = Plain::new(width, height) else {
-        return Told::Nothing;
-    };
-    match sheet.panel(Order { shape, side, clear }) {
-        Ok(place) => Told::At(place.x, place.y),
-        Err(refusal) => Told::Refused(refusal.number()),
-    }
+    let shape = Plain::new(width, height).map_err(|_| Refusal::NoShape.number())?;
+    sheet
+        .panel(Order { shape, side, clear })
+        .map_err(Refusal::number)
 }
 
 // Sets the words of a text of at most 8 words from a given one on.
@@ -105,15 +69,8 @@ pub(crate) fn flow(sheet: &mut Sheet<'_>, bytes: &[u8], from: usize) -> Flowed
             stopped: None,
         };
     };
-    let mut words = [Word {
-        place: 0,
-        length: 0,
-        advance: 0,
-    }; 8];
-    let mut runs = [Run {
-        advance: 0,
-        count: 0,
-    }; 16];
+    let mut words = [Word::default(); 8];
+    let mut runs = [Run::default(); 16];
     let text = measure(&metrics, bytes, &mut words, &mut runs);
     sheet.flow(&text, from)
 }
@@ -127,29 +84,32 @@ pub(crate) enum Ask<'a> {
     Words(&'a [u8]),
 }
 
-fn asked(sheet: &mut Sheet<'_>, ask: Ask<'_>) -> Told
+// Makes a call, and answers where its panel stands, or the line with its last word, if one is open.
+fn asked(sheet: &mut Sheet<'_>, ask: Ask<'_>) -> Result<Option<Place>, u8>
     ensures { open_number sheet.new ≡ open_number sheet.old }
 {
     match ask {
-        Ask::Panel(side, width, height, clear) => place(sheet, side, width, height, clear),
+        Ask::Panel(side, width, height, clear) => place(sheet, side, width, height, clear).map(
+            Some,
+        ),
         Ask::Words(bytes) => match flow(sheet, bytes, 0).stopped {
-            Some(refusal) => Told::Refused(refusal.number()),
-            None => match sheet.open_line() {
-                Some(line) => Told::At(line.x, line.y),
-                None => Told::Nothing,
-            },
+            Some(refusal) => Err(refusal.number()),
+            None => Ok(
+                sheet.open_line().map(|line| Place {
+                    x: line.x,
+                    y: line.y,
+                }),
+            ),
         },
     }
 }
 
 // What the last of three calls is answered, on a sheet of 100 units by 60 rows with one paragraph open.
-pub(crate) fn last(first: Ask<'_>, second: Ask<'_>, third: Ask<'_>) -> Told {
-    let mut cells = [NO_REACH; 128];
+pub(crate) fn last(first: Ask<'_>, second: Ask<'_>, third: Ask<'_>) -> Result<Option<Place>, u8> {
+    let mut cells = [Reach::default(); 128];
     let mut list = [NO_BOX; 9];
     let mut sheet = Sheet::new(SIZE, &mut cells, &mut list);
-    let Ok(slip) = sheet.open(WHOLE, Clear::None) else {
-        return Told::Nothing;
-    };
+    let slip = sheet.open(WHOLE, Clear::None).map_err(Refusal::number)?;
     let _ = asked(&mut sheet, first);
     let _ = asked(&mut sheet, second);
     let told = asked(&mut sheet, third);

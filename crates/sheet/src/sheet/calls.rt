@@ -1,18 +1,17 @@
 // The calls of a sheet. Each is one call of its store, and bears the law over all calls before it.
-ghost use Rattle.std.specs.Prelude.{◌≡◌, ◌*◌, true, [], length, drop, is_some, is_ok, IfOk, IfErr, Some, OnErr, OnOk};
-ghost use Rattle.std.specs.Result.{result_err};
-ghost use Rattle.segment_tree.specs.LeafCount.{leaf_count};
+ghost use Rattle.std.specs.Prelude.{◌≡◌, true, [], length, drop, is_some, is_ok, IfOk, IfErr, MatchResult, Some, OnErr, OnOk};
 ghost use Rattle.rows.specs.Asked.{wanted};
 ghost use Rattle.rows.specs.Fit.{Stays};
 ghost use Rattle.rules.specs.Boxes.{totals_of};
 ghost use Rattle.rules.specs.Runs.{opens, flows, panels, ends};
 ghost use Rattle.sheet.specs.View.{Rest};
-ghost use Rattle.sheet.specs.Fresh.{new_refusal, new_size, full_size, cells_used};
+ghost use Rattle.sheet.specs.Fresh.{new_size, cells_used};
+ghost use Rattle.sheet.specs.Made.{Makes};
 ghost use Rattle.sheet.specs.Stores.{open_answer, panel_answer, flow_answer, end_answer, advances_in};
 ghost use Rattle.sheet.specs.Sheets.{fields, open_number, boxes_in, Past, Tells, Ever, Shows, Lists};
 
 use super::Sheet;
-use crate::answers::{Finished, Flowed};
+use crate::answers::{Finished, Flowed, Unmade};
 use crate::sizes::SheetSize;
 use crate::slips::Slip;
 use crate::store::Store;
@@ -39,21 +38,23 @@ impl<'a> Sheet<'a> {
         Sheet { store }
     }
 
-    // A new sheet of just this size over lent cells and a lent list, or the refusal that `fault` tells. Then nothing is
-    // written, which no clause can say: a reference that may go into the result has no value after the call.
+    // A new sheet of just this size over lent cells and a lent list. Of a size that `fault` refuses none is made, and the
+    // memory is handed back as it was.
     pub fn try_new(
         size: SheetSize,
         cells: &'a mut [Reach],
         list: &'a mut [BoxRecord],
-    ) -> Result<Sheet<'a>, Refusal>
-        ensures refused { result_err result ≡ new_refusal size (length cells.old) }
-        ensures account { IfOk result (λ s. Past (full_size size (length list.old)) [] s) }
-        ensures named { IfOk result (λ s. s.store.list.ghost_name ≡ list.entry.ghost_name) }
-        ensures list { IfOk result (λ s. s.store.list.now ≡ list.old) }
-        ensures rest { IfOk result (λ s. drop (2 * leaf_count size.height) s.store.rows.tree.cells.now ≡ drop (2 * leaf_count size.height) cells.old) }
+    ) -> Result<Sheet<'a>, Unmade<'a>>
+        ensures made { Makes size cells.old list.old result }
+        ensures named { MatchResult result (λ s. s.store.list.ghost_name ≡ list.entry.ghost_name) (λ u. u.list.ghost_name ≡ list.entry.ghost_name) }
+        ensures cells { IfErr result (λ u. u.cells.ghost_name ≡ cells.entry.ghost_name) }
     {
         match fault(size, cells.len()) {
-            Some(refusal) => Err(refusal),
+            Some(refusal) => Err(Unmade {
+                refusal,
+                cells,
+                list,
+            }),
             None => Ok(Sheet::new(size, cells, list)),
         }
     }
