@@ -1,14 +1,11 @@
 -- Bytes printed into memory that is just as long. Assumes nothing.
-use Rattle.std.proofs.Common.{◌≡◌, ℕ, ◌≤◌, min, Bool, true, false, cond, leb, List, [], ◌++◌, length, take, drop, Ok, Err, Result, refl, ap, ◌∙◌, append-nil, arith, le-leb, leb-true}
+use Rattle.std.proofs.Common.{◌≡◌, ℕ, ◌≤◌, min, Bool, true, false, cond, List, [], ◌++◌, length, take, drop, Ok, Err, Result, refl, ap, ◌∙◌, is_ok, append-nil, arith, le-leb, leb-true}
 use lib.Seq.{take-append-le}
 use Rattle.std.proofs.lemmas.List.{drop_all, take_all}
 use Rattle.printing.specs.declared.outputs.ShortOutput.{ShortOutput}
 use Rattle.printing.specs.Outputs.{fits, print_answer, print_kept}
 
 -- no longer than what is printed: as long, or that held at a greatest number
-pub no_longer : (a b c : ℕ) → a ≡ b → b ≡ c → a ≤ c
-no_longer a b c is are = omega arith
-
 pub no_longer_held : (a b c g : ℕ) → a ≡ b → b ≡ min g c → a ≤ c
 no_longer_held a b c g is are = omega arith
 
@@ -20,16 +17,9 @@ fit : (b : Bool) (n m : ℕ) → Ok n ≡ answered b m → b ≡ true
 fit true n m h = refl
 fit false n m h = let z : ◌≡◌ {A = ℕ} 0 1 = cc in absurd (omega arith)
 
-unfit : (b : Bool) (m : ℕ) (e : ShortOutput) → Err e ≡ answered b m → b ≡ false
-unfit true m e h = let z : ◌≡◌ {A = ℕ} 0 1 = cc in absurd (omega arith)
-unfit false m e h = refl
-
 -- memory that is long enough is not refused
-pub never_short : (bs xs : List ℕ) (e : ShortOutput) → length bs ≤ length xs → Err e ≡ print_answer bs xs → ⊥
-never_short bs xs e le h =
-    let no : leb (length bs) (length xs) ≡ false = unfit (fits bs xs) (length bs) e h in
-    let yes : leb (length bs) (length xs) ≡ true = le-leb (length bs) (length xs) le in
-    let z : ◌≡◌ {A = Bool} true false = cc in cc
+pub always_fits : (bs xs : List ℕ) (r : Result ℕ ShortOutput) → length bs ≤ length xs → r ≡ print_answer bs xs → is_ok r ≡ true
+always_fits bs xs r le h = ap is_ok (h ∙ ap (λ b. answered b (length bs)) (le-leb (length bs) (length xs) le))
 
 module _ (bs xs ys items : List ℕ) (len n : ℕ) (long : length xs ≡ len) (enough : len ≤ length bs) (answer : Ok n ≡ print_answer bs xs) (kept : ys ≡ print_kept bs xs) where
   into : fits bs xs ≡ true
