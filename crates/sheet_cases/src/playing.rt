@@ -37,10 +37,7 @@ pub(crate) const NO_BOX: BoxRecord = BoxRecord::Line(LineBox {
 pub(crate) fn spend(sheet: &mut Sheet<'_>, own: Slip)
     requires { open_number sheet.old ≡ Some own.number }
 {
-    match sheet.end(own) {
-        Ok(()) => {}
-        Err(_) => unreachable(),
-    }
+    sheet.end(own).unwrap();
 }
 
 // Places a box, and answers where it stands, or the number of the refusal.
