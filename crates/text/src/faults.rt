@@ -57,7 +57,8 @@ impl From<Unfit> for TextFault {
 }
 
 impl TextFault {
-    // The number by which the fault is known outside. The numbers stand here, since a kind that holds a place has none by `as`.
+    // The number by which the fault is known outside.
+    // The numbers stand here, since a kind that holds a place has none by `as`.
     pub fn cause(self) -> u8
         ensures { result ≡ cause_of self }
     {
@@ -81,7 +82,7 @@ impl TextFault {
 }
 
 // How many words there are to measure, or the first fault that applies to measuring this text into these records and
-// cells. It writes nothing.
+// cells. It writes nothing. The three stand apart as in `fault` and `measure`, whose callers hold them apart.
 pub(crate) fn admitted(text: &[u8], words: &[Word], cells: &[Run]) -> Result<usize, TextFault>
     ensures fault { result_err result ≡ text_fault text.now (length words.now) (length cells.now) }
     ensures count { IfOk result (λ n. n ≡ length (words_of text.now)) }

@@ -27,6 +27,7 @@ fn advance<M: Metrics>(metrics: &M, bytes: &[u8]) -> u32
 }
 
 // The record of the word that stands there.
+// The casts are proved to lose nothing; `try_from` would only add an `unwrap`.
 fn record<M: Metrics>(metrics: &M, text: &[u8], span: Span) -> Word
     requires short { length text.now ≤ longest_text }
     requires within { end span ≤ length text.now }
@@ -42,6 +43,7 @@ fn record<M: Metrics>(metrics: &M, text: &[u8], span: Span) -> Word
 }
 
 // Writes the record of each word, from the first place of the list on.
+// It writes by index: of a list that is lent to `zip`, a proof knows afterwards no more than its length.
 pub(crate) fn record_all<M: Metrics>(metrics: &M, text: &[u8], words: &mut [Word])
     requires short { length text.now ≤ longest_text }
     requires room { length (words_of text.now) ≤ length words.old }

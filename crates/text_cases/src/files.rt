@@ -1,7 +1,7 @@
 // The lines and fields of a file.
 use lexer::faults::Cause;
 use lexer::fields::Fields;
-use lexer::kinds::{Number, Within, Word, spells};
+use lexer::kinds::{Kind, Number, Within, Word};
 use lexer::lines::{Lines, lines_stand};
 use lexer::numerals::{number, numerals_stand};
 use std::test::Fail;
@@ -22,7 +22,8 @@ fn numbers_are_decimal_without_leading_zeros(rt: HostRuntime) {
     assert_eq!(rt; number(b"65535"), Some(65535));
     assert_eq!(rt; number(b"0"), Some(0));
     assert!(rt; number(b"65536").is_none() && number(b"07").is_none() && number(b"").is_none());
-    assert!(rt; spells(b"row", b"row") && !spells(b"rows", b"row"));
+    let row = Word { text: b"row" };
+    assert!(rt; row.value(b"row").is_some() && row.value(b"rows").is_none());
     assert!(rt; Cause::Keyword.number() == 8 && Cause::Field.number() == 10);
 }
 

@@ -35,6 +35,7 @@ pub fn word_end(text: &[u8], from: usize) -> usize
 
 // The first word of what is left of the text from `from` on. Go on at the word's end for the next one.
 // A `from` within a word gives the rest of that word.
+// The text and the offset are one value in `Words`; here they stand apart for a caller who keeps no more than the offset.
 pub fn next_word(text: &[u8], from: usize) -> Option<Span>
     ensures next { Next text.now from result }
     ensures lies { IfSome result (Lies text.now from) }
@@ -51,6 +52,7 @@ pub fn next_word(text: &[u8], from: usize) -> Option<Span>
 }
 
 // The words that are left of a text from an offset on, first to last.
+// The text stays whole, since a place counts from its start.
 #[derive(Drop)]
 pub struct Words<'t> {
     pub text: &'t [u8],

@@ -19,6 +19,7 @@ fn place(byte: u8) -> usize
 }
 
 // What a width comes to at a size. A byte that is there takes some room: 0 counts as 1.
+// The cast is proved to lose nothing; `try_from` would only add an `unwrap`.
 fn scaled(width: u16, size: u16) -> u8
     requires wide { FitWidth width }
     requires large { FitSize size }

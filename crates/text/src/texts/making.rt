@@ -51,6 +51,7 @@ impl<'a> Text<'a> {
         ensures words { IfErr result (λ u. u.words.ghost_name ≡ words.entry.ghost_name) }
         ensures cells { IfErr result (λ u. u.cells.ghost_name ≡ cells.entry.ghost_name) }
     {
+        // By hand, since a closure of `map_err` would take the records and cells that the other arm writes.
         match admitted(text, words, cells) {
             Err(fault) => Err(Unmeasured {
                 fault,
