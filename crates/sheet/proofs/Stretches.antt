@@ -144,13 +144,6 @@ word_at t i w is =
     (λ ge. let e : Some w ≡ None = is ∙ slice_get_past (words_in t) i ge in let z : ◌≡◌ {A = ℕ} 0 1 = cc in absurd (omega arith))
     (cases_lt i (length (words_in t)))
 
-pub no_word_at : (t : Text) (i : ℕ) → None ≡ slice_get (words_in t) i → length (words_in t) ≤ i
-no_word_at t i is =
-    ⊎_elim
-    (λ lt. let e : None ≡ Some (get_or (words_in t) i no_word) = is ∙ slice_get-get_or (words_in t) i no_word lt in let z : ◌≡◌ {A = ℕ} 0 1 = cc in absurd (omega arith))
-    (λ ge. omega arith)
-    (cases_lt i (length (words_in t)))
-
 -- The open line, with the words from i up to j joined to it
 
 same_line : (t u u' n n' : ℕ) → u ≡ u' → n ≡ n' → ◌≡◌ {A = Line} (record { top = t; used = u; words = n }) (record { top = t; used = u'; words = n' })

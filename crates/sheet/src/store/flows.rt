@@ -55,9 +55,7 @@ impl<'a> Store<'a> {
         let mut i = from;
         // A round sets all words that a line has room for, so it goes on by more than one.
         while i < count {
-            let Some(word) = text.word(i) else {
-                unreachable!()
-            };
+            let word = text.word(i).unwrap();
             if let Err(refusal) = self.word(para, word.advance, text.space()) {
                 return Flowed {
                     set: i - from,

@@ -65,9 +65,7 @@ impl<'a> Store<'a> {
         if fault(size, cells.len()).is_some() {
             return empty(Rows::vacant(cells), list, 1);
         }
-        let Some(rows) = Rows::new(cells, size.width, size.height) else {
-            unreachable()
-        };
+        let rows = Rows::new(cells, size.width, size.height).unwrap();
         empty(rows, list, size.line)
     }
 }
