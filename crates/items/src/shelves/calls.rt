@@ -13,9 +13,7 @@ impl Shelf {
         ensures { kept result ≡ [] }
     {
         // What stands past the count is never asked for.
-        let Ok(blank) = Stairs::new(1, &[Step { rows: 1, extent: 0 }]) else {
-            unreachable!()
-        };
+        let blank = Stairs::new(1, &[Step { rows: 1, extent: 0 }]).unwrap();
         Shelf {
             stairs: [blank; MOST_SHAPES],
             count: 0,

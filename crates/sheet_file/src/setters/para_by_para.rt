@@ -38,10 +38,7 @@ fn spend(sheet: &mut Sheet<'_>, own: Slip)
     ensures told { Tells (ends own.number) ended sheet.old sheet.new }
     ensures spares { Spares sheet.old sheet.new }
 {
-    match sheet.end(own) {
-        Ok(()) => {}
-        Err(_) => unreachable!(),
-    }
+    sheet.end(own).unwrap();
 }
 
 // The line that the next paragraph begins with.
