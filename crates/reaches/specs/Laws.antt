@@ -1,4 +1,6 @@
 -- Reaches keep the laws of a kind of element. Assumes nothing.
+--     reach_laws     joining them has its laws, and what is within a need stays within it when less is joined
+--     reach_equals   two reaches are one exactly where their four numbers are equal
 use Rattle.std.specs.Prelude.{◌≡◌, ℕ, ◌≤◌, true, ◌&&◌, ◌↔◌, nat_eq}
 use Rattle.std.proofs.Common.{ap, arith}
 use Rattle.std.proofs.lemmas.Bool.{leb-true, le-leb, eqb-true, eq-eqb, and_parts, and_from}

@@ -5,7 +5,7 @@ ghost use Rattle.places.specs.Panels.{Placed};
 ghost use Rattle.places.specs.Bands.{band, free};
 ghost use Rattle.reaches.specs.Reaches.{no_reach, farther};
 ghost use Rattle.reaches.specs.Panels.{rows_reach};
-ghost use Rattle.rows.specs.Told.{index_of, Tells};
+ghost use Rattle.rows.specs.Told.{index_of, gap_of, Tells};
 ghost use Rattle.rows.specs.Fit.{Stays};
 
 use crate::Rows;
@@ -13,15 +13,15 @@ use places::parts::Span;
 use reaches::reach::{Gap, Reach, Taken};
 use segment_tree::Element;
 
-// Where the reach of a row stands in the tree.
-fn index(row: u32) -> usize
+// Where the reach of a row stands in the tree. The cast loses nothing, since a row is a number of 32 bits.
+pub(crate) fn index(row: u32) -> usize
     ensures { result ≡ index_of row }
 {
     row as usize
 }
 
 // That the margins end on the sheet is asked at each call, since they are a paragraph's: a value that held them with the
-// rows would be made anew for each call.
+// rows would be made anew for each call. So it is with the end of the open line, which is the caller's too.
 impl<'a> Rows<'a> {
     // How far in the panels reach on the n rows from `top` on.
     pub(crate) fn reach_of(&self, top: u32, n: u32) -> Reach
@@ -29,7 +29,7 @@ impl<'a> Rows<'a> {
         ensures { (qs : List Placed) → Tells self.now qs → result ≡ rows_reach self.now.width qs top n }
     {
         let first = index(top);
-        self.tree.fold(first, first + n as usize)
+        self.tree.fold(first, first + index(n))
     }
 
     // Row `row` reaches as far as it did, or as this reach.
@@ -44,18 +44,25 @@ impl<'a> Rows<'a> {
         let _ = self.tree.set(at, reach.join(old));
     }
 
+    // The gap between these margins on this sheet, beside the boxes or beside the areas.
+    pub(crate) fn gap(&self, margins: Span, of: Taken) -> Gap
+        ensures { result ≡ gap_of self.now.width margins of }
+    {
+        Gap {
+            margins,
+            width: self.width,
+            of,
+        }
+    }
+
     // The band of the n rows from `top` on: what the areas leave between the margins on all of them.
     pub fn band(&self, margins: Span, top: u32, n: u32) -> Span
         requires inside { top + n ≤ self.now.height }
         requires margins { margins.to ≤ self.now.width }
         ensures { (qs : List Placed) → Tells self.now qs → result ≡ band margins qs top n }
     {
-        let gap = Gap {
-            margins,
-            width: self.width,
-            of: Taken::Areas,
-        };
-        gap.left_over(self.reach_of(top, n))
+        self.gap(margins, Taken::Areas)
+            .left_over(self.reach_of(top, n))
     }
 
     // What the boxes leave of row y between the margins.
@@ -65,11 +72,7 @@ impl<'a> Rows<'a> {
         ensures inside { result.to ≤ margins.to }
         ensures told { (qs : List Placed) → Tells self.now qs → result ≡ free margins qs y }
     {
-        let gap = Gap {
-            margins,
-            width: self.width,
-            of: Taken::Boxes,
-        };
-        gap.left_over(self.reach_of(y, 1))
+        self.gap(margins, Taken::Boxes)
+            .left_over(self.reach_of(y, 1))
     }
 }

@@ -46,7 +46,6 @@ impl Ground {
         }
         let w = shape.width();
         let e = widest_of(shape, bottom - y);
-        let left = Part { side, x, w, e }.beside(around);
-        words.used <= left.to.saturating_sub(left.from)
+        words.used <= Part { side, x, w, e }.beside(around).room()
     }
 }

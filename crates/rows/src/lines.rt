@@ -9,7 +9,7 @@ ghost use Rattle.rows.specs.Asked.{sizes_of};
 
 use crate::Rows;
 use places::parts::Span;
-use reaches::reach::{Gap, Need, Taken};
+use reaches::reach::{Need, Taken};
 use segment_tree::Element;
 
 impl<'a> Rows<'a> {
@@ -19,11 +19,7 @@ impl<'a> Rows<'a> {
         requires margins { margins.to ≤ self.now.width }
         ensures { (qs : List Placed) → Tells self.now qs → result ≡ nat_le need (room (band margins qs top line)) }
     {
-        let gap = Gap {
-            margins,
-            width: self.width,
-            of: Taken::Areas,
-        };
+        let gap = self.gap(margins, Taken::Areas);
         self.reach_of(top, line).within(&Need { gap, need })
     }
 
@@ -34,6 +30,7 @@ impl<'a> Rows<'a> {
         ensures told { (scene : Scene) → Tells self.now scene.placed → scene.margins ≡ margins → Sought (sizes_of self.now line) scene start need result }
     {
         let last = self.height.checked_sub(line)?;
+        // By a `for`, since the library has no lemma of `find` over a range that includes its end.
         for top in start..=last {
             if self.is_wide(margins, line, top, need) {
                 return Some(top);

@@ -4,6 +4,7 @@ ghost use Rattle.segment_tree.specs.LeafCount.{leaf_count};
 ghost use Rattle.rows.specs.Made.{Laid, Bare};
 
 use crate::Rows;
+use crate::bands::index;
 use reaches::reach::Reach;
 use segment_tree::Tree;
 
@@ -12,7 +13,7 @@ impl<'a> Rows<'a> {
     pub fn new(cells: &'a mut [Reach], width: u32, height: u32) -> Option<Rows<'a>>
         ensures { MatchOption result (length cells.old < 2 * leaf_count height) (λ rows. Laid cells.old width height rows) }
     {
-        let tree = Tree::new(cells, height as usize)?;
+        let tree = Tree::new(cells, index(height))?;
         Some(Rows {
             tree,
             width,

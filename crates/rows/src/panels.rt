@@ -22,6 +22,7 @@ impl<'a> Rows<'a> {
         requires ends { Ends ground.current ground.line self.now.height }
         ensures { (qs : List Placed) → Tells self.now qs → result ≡ line_band ground.margins qs ground.line ground.current }
     {
+        // By a `match`, since a closure given to `map_or` tells nothing of the band unless it repeats this contract.
         match ground.current {
             None => ground.margins,
             Some(words) => self.band(ground.margins, words.top, ground.line),
@@ -46,19 +47,17 @@ impl<'a> Rows<'a> {
     {
         let width = shape.width();
         let free = self.free_on(ground.margins, y);
-        if free.to.saturating_sub(free.from) < width {
+        if free.room() < width {
             return None;
         }
         let x = nearest(free, side, width);
-        if ground.keeps(around, side, x, y, shape) {
-            Some(x)
-        } else {
-            None
-        }
+        ground.keeps(around, side, x, y, shape).then_some(x)
     }
 
     // The best place for a panel: the highest that is permitted, and of these the nearest to its side. No row above
-    // `start` is allowed. Where a panel may stand on a row it may on each row below, so the rows are halved.
+    // `start` is allowed; of clear no more is asked here, since that row is told by it. Side and shape come as they are
+    // asked for, since an order, with its clear, is the caller's. Where a panel may stand on a row it may on each row
+    // below, so the rows are halved.
     pub fn best_place<S: Shape>(
         &self,
         ground: Ground,

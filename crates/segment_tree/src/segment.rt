@@ -10,6 +10,9 @@ pub mod leaves;
 mod methods;
 pub mod runs;
 
+// The cells are lent whole, beside a size and a count: contracts speak of the cells past those in use, and a slice of the
+// used ones alone would let go of them. It does not hold `Leaves`: contracts name its size, count and cells directly, and
+// between laying and joining the sums may be false.
 #[derive(Drop)]
 pub struct Tree<'a, E: Element> {
     cells: &'a mut [E],

@@ -1,4 +1,6 @@
 -- The sum that is held at a number is a lawful join, and so are runs. Assumes nothing.
+--     run_laws     joining runs has its laws, and what has room keeps it when fewer words are joined
+--     run_equals   two runs are one exactly where their two numbers are equal
 use Rattle.std.proofs.Common.{⊎_elim, sym, ap, ◌∙◌, mul-le-mul_left, arith}
 use Rattle.std.specs.Prelude.{◌≡◌, ℕ, ◌+◌, ◌-◌, ◌<◌, ◌≤◌, true, ◌&&◌, ◌↔◌, min, max, nat_eq}
 use Rattle.segment_tree.specs.Joins.{Laws}

@@ -3,7 +3,8 @@ ghost use Rattle.std.specs.Prelude.{◌*◌, ◌≤◌, length};
 
 mod methods;
 
-// The cells of a tree, as the tree has them, but what stands in the inner cells does not count.
+// The cells of a tree, as the tree has them, but what stands in the inner cells does not count. The fields are those of a
+// tree, and no type holds them for both: the contracts of each name its size, count and cells directly.
 #[derive(Drop)]
 pub struct Leaves<'a, E> {
     pub(crate) cells: &'a mut [E],

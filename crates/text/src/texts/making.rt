@@ -77,6 +77,7 @@ pub fn measure<'a, M: Metrics>(
 ) -> Text<'a>
     ensures { Measures (M.advances metrics.now) text.now words.old cells.old result }
 {
+    // By hand, since a closure over an `Unmeasured`, which holds the records and cells, is not covered.
     match Text::new(metrics, text, words, cells) {
         Ok(text) => text,
         Err(Unmeasured { words, cells, .. }) => Text {

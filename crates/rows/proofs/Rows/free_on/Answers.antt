@@ -1,5 +1,6 @@
 -- What the boxes' reach leaves is what is free.
 use Rattle.std.proofs.Common.{sym, ap, ◌∙◌}
+use Rattle.reaches.specs.declared.reach.Gap.{Gap}
 use Rattle.reaches.specs.declared.reach.Taken.TheVariants.{Boxes}
 use Rattle.reaches.specs.Reaches.{left_over}
 use Rattle.reaches.specs.Panels.{row_reach}
@@ -12,5 +13,6 @@ returns-clause-told c = λ qs told.
     let width = c.args.self.now.width in
     let margins = c.args.margins in
     c.left_over.ensures
+    ∙ ap (λ (gap : Gap). left_over gap.of gap.width gap.margins c.reach_of.result) c.gap.ensures
     ∙ ap (left_over Boxes width margins) (c.reach_of.ensures qs told ∙ reach_laws.right_neutral (row_reach width qs c.args.y))
     ∙ sym (boxes_leave_the_free width margins qs c.args.y c.requires.margins told.inside)
