@@ -7,6 +7,18 @@ pub struct Span {
     pub to: u32,
 }
 
+impl Span {
+    ghost use Rattle.std.specs.Prelude.{◌≡◌};
+    ghost use Rattle.places.specs.Bands.{room};
+
+    // How wide it is, 0 where its right edge comes first.
+    pub fn room(self) -> u32
+        ensures { result ≡ room self }
+    {
+        self.to.saturating_sub(self.from)
+    }
+}
+
 // An open line: its top row, the units that its words and the spaces between them use, and how many words it has.
 #[derive(Clone, Copy)]
 pub struct Line {

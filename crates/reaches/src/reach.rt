@@ -81,7 +81,6 @@ impl Element for Reach {
     }
 
     fn within(self, limit: &Need) -> bool {
-        let left = limit.gap.left_over(self);
-        limit.need <= left.to.saturating_sub(left.from)
+        limit.need <= limit.gap.left_over(self).room()
     }
 }
