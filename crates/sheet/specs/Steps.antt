@@ -1,9 +1,11 @@
 -- What the parts of a call find out and leave. Assumes nothing.
 --     RoomLeft v m sp l r  the line l between the margins m has r units left behind a space sp, or none where that has no room
---     Joined v m sp a r   r is the open line with the word a joined to it, or none where it has no room for it
---     Open v r            r is the box that the open line would have if it closed now, by every account that v holds
---     FitOpen n rows l   the line l of n rows ends on the sheet, and each of its words takes a unit or more
---     Closed v m w        w is v with its open line closed, if there is one, between the margins m
+--     Joined v m sp a r    r is the open line with the word a joined to it, or none where it has no room for it
+--     box_at x l           the box of the line l whose left edge is x
+--     Open v r             r is the box that the open line would have if it closed now, by every account that v holds
+--     FitOpen n rows l     the line l of n rows ends on the sheet, and each of its words takes a unit or more
+--     shut_by b l v        v with the line l closed as the box b
+--     Closed v m w         w is v with its open line closed, if there is one, between the margins m
 use Rattle.std.specs.Prelude.{◌≡◌, ℕ, ◌+◌, ◌<◌, ◌≤◌, List, Some, None, Option, slice_set}
 use Rattle.places.specs.declared.parts.Span.{Span}
 use Rattle.places.specs.declared.parts.Line.{Line}

@@ -19,4 +19,4 @@ pub mod slips;
 // What a sheet holds, and the work of its calls.
 pub(crate) mod store;
 
-pub use store::make::fault;
+pub use store::make::{MOST_CELLS, fault};

@@ -1,4 +1,6 @@
 // What a sheet holds, with what keeps each index and each sum in its range. `Sheet` holds one that some calls led to.
+// What the clauses `keeps`, `sets` and `same` of its calls say is of two stores, before and after, and so no type's.
+// The list is lent whole, with the count of the records in use beside it, since what the rest hold is told too.
 ghost use Rattle.std.specs.Prelude.{◌≡◌, ◌+◌, ◌<◌, ◌≤◌, length, take, Some};
 ghost use Rattle.places.specs.declared.parts.Line.{Line};
 ghost use Rattle.rules.specs.Account.{reserved};

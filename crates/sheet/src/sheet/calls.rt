@@ -1,4 +1,5 @@
-// The calls of a sheet. Each is one call of its store, and bears the law over all calls before it.
+// The calls of a sheet. Each is one call of its store, and bears the law over all calls before it. What several clauses say
+// alike stands in each, since it is what the call promises of the sheet before it and the sheet after it.
 ghost use Rattle.std.specs.Prelude.{◌≡◌, true, [], length, drop, is_some, is_ok, IfOk, IfErr, MatchResult, Some, OnErr, OnOk};
 ghost use Rattle.rows.specs.Asked.{wanted};
 ghost use Rattle.rows.specs.Fit.{Stays};
@@ -49,14 +50,14 @@ impl<'a> Sheet<'a> {
         ensures named { MatchResult result (λ s. s.store.list.ghost_name ≡ list.entry.ghost_name) (λ u. u.list.ghost_name ≡ list.entry.ghost_name) }
         ensures cells { IfErr result (λ u. u.cells.ghost_name ≡ cells.entry.ghost_name) }
     {
-        match fault(size, cells.len()) {
-            Some(refusal) => Err(Unmade {
+        if let Some(refusal) = fault(size, cells.len()) {
+            return Err(Unmade {
                 refusal,
                 cells,
                 list,
-            }),
-            None => Ok(Sheet::new(size, cells, list)),
+            });
         }
+        Ok(Sheet::new(size, cells, list))
     }
 
     // Opens a paragraph between margins, below the panels of the cleared sides. The slip is for `end`.

@@ -31,6 +31,7 @@ impl<'a> Store<'a> {
             return from;
         }
         let run = text.fold(from, to);
+        // The cast is proved to lose nothing; `try_from` would only add an `unwrap`.
         self.current = Some(Line {
             top: words.top,
             used: words.used + u32::from(space) + run.width(space) as u32,

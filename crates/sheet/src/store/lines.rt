@@ -38,6 +38,7 @@ impl<'a> Store<'a> {
     pub(crate) fn start_row(&self) -> u32
         ensures { result ≡ start_of self.now.line self.now.cursor self.now.current }
     {
+        // By a match: a proof is told nothing of what a closure reads of the store.
         match self.current {
             None => self.cursor,
             Some(words) => words.top + self.line,
@@ -50,12 +51,11 @@ impl<'a> Store<'a> {
         ensures named { self.new.list.ghost_name ≡ self.old.list.ghost_name }
         ensures after { Closed (view self.old) margins (view self.new) }
     {
-        if let Some(words) = self.current {
+        if let Some(words) = self.current.take() {
             let band = self.rows.band(margins, words.top, self.line);
             self.list[self.used] = BoxRecord::Line(box_of(words, band));
             self.used += 1;
             self.cursor = words.top + self.line;
-            self.current = None;
         }
     }
 
@@ -77,8 +77,8 @@ impl<'a> Store<'a> {
         ensures told { RoomLeft (view self.now) margins space words result }
     {
         let band = self.rows.band(margins, words.top, self.line);
-        let room = band.to.saturating_sub(band.from);
-        room.checked_sub(words.used)?.checked_sub(u32::from(space))
+        let room = band.room().checked_sub(words.used)?;
+        room.checked_sub(u32::from(space))
     }
 
     // The open line with a word of this advance joined to it, if it fits.
@@ -100,7 +100,7 @@ impl<'a> Store<'a> {
         })
     }
 
-    // Sets one word of the open paragraph.
+    // Sets one word of the open paragraph, which is passed on by who has looked whether there is one.
     pub(crate) fn word(&mut self, para: Paragraph, advance: u32, space: u8) -> Result<(), Refusal>
         requires para { self.old.para ≡ Some para }
         requires advance { FitAdvance advance }
@@ -108,7 +108,7 @@ impl<'a> Store<'a> {
         ensures same { OnErr result (view self.new ≡ view self.old) }
         ensures account { WordTold para space advance result (view self.old) (view self.new) }
     {
-        if advance > para.margins.to - para.margins.from {
+        if advance > para.margins.room() {
             return Err(Refusal::WideWord);
         }
         if let Some(longer) = self.joined(para.margins, advance, space) {

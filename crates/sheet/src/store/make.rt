@@ -13,10 +13,14 @@ use rules::boxes::BoxRecord;
 use rules::refusals::Refusal;
 use segment_tree::enough;
 
-// The greatest width and height, and the greatest height of a line.
+// The greatest width and height, and the greatest height of a line. They are a sheet's own, though those of a shape are
+// the same.
 const MOST_UNITS: u32 = 4096;
 
 const MOST_LINE: u32 = 255;
+
+// The cells that the highest sheet takes: two for each of its rows.
+pub const MOST_CELLS: usize = 8192;
 
 // Why no sheet of this size can be made over so many cells.
 pub fn fault(size: SheetSize, cells: usize) -> Option<Refusal>
@@ -28,6 +32,7 @@ pub fn fault(size: SheetSize, cells: usize) -> Option<Refusal>
     if !is_within {
         return Some(Refusal::BadSize);
     }
+    // A `usize` has 64 bits, so the cast loses nothing; std has no `From` that says so.
     (!enough(cells, size.height as usize)).then_some(Refusal::FewCells)
 }
 

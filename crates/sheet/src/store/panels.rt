@@ -24,7 +24,7 @@ impl<'a> Store<'a> {
     {
         let para = self.para.ok_or(Refusal::NoParagraph)?;
         let width = order.shape.width();
-        if width > para.margins.to - para.margins.from {
+        if width > para.margins.room() {
             return Err(Refusal::WidePanel);
         }
         if self.full() {
