@@ -5,7 +5,7 @@ use Rattle.rows.specs.declared.Rows.{Rows}
 use Rattle.sheet.specs.declared.sheet.Sheet.{Sheet}
 use Rattle.sheet.specs.Sheets.{fields}
 use Rattle.sheet.proofs.Moves.{rest_then}
-use Rattle.items.specs.Spares.{Spares, Keeps}
+use Rattle.items.specs.Spares.{Spares}
 
 pub stays_none : (s : Rows) → Stays s s
 stays_none s = record { width = refl; height = refl; tree = record { count = refl; size = refl; rest = refl } }
@@ -26,6 +26,3 @@ stays_then s t u a b = record {
 
 pub spares_then : (s t u : Sheet) → Spares s t → Spares t u → Spares s u
 spares_then s t u a b = record { list = rest_then (fields s) (fields t) (fields u) a.list b.list; rows = stays_then s.store.rows t.store.rows u.store.rows a.rows b.rows }
-
-pub keeps_then : (s t u : Sheet) → Keeps s t → Keeps t u → Keeps s u
-keeps_then s t u a b = record { number = b.number ∙ a.number; spares = spares_then s t u a.spares b.spares }

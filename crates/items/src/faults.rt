@@ -132,6 +132,7 @@ impl Reason for FileFault {
         }
     }
 
+    // The numbers stand beside the kinds, since a kind that holds another layer's fault has the number of that.
     fn cause(&self) -> u8 {
         match self {
             FileFault::Form(fault) => fault.cause.number(),

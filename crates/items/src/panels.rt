@@ -16,7 +16,8 @@ use shapes::sides::{Clear, Side};
 use shapes::{NoShape, Shape};
 use sheet::sheet::Sheet;
 
-// Places a panel of this shape, if there is one.
+// Places a panel of this shape, if there is one. What the sheet keeps is said at each call here and below: it is of the sheet
+// before and after, which no type can say.
 fn place<S: Shape + Drop>(
     sheet: &mut Sheet<'_>,
     shape: Result<S, NoShape>,

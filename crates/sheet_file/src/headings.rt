@@ -38,7 +38,7 @@ fn next_scale(cursor: &mut Cursor<'_>) -> Result<Scale, Located>
     cursor.judge(scale_of(line))
 }
 
-// How many staircases the file names.
+// How many staircases the file names. The cast is of a constant.
 fn next_shapes(cursor: &mut Cursor<'_>) -> Result<u16, Located>
     ensures took { Took (λ n. n) shapes_count cursor.old result cursor.new }
     ensures few { IfOk result (λ n. n ≤ most_shapes) }

@@ -20,7 +20,8 @@ use text::{Run, Word};
 // The most bytes of a file.
 const LONGEST: usize = 32768;
 
-// What comes of a file: the list of its sheet, with the boxes that were set, and the first fault, if there is one.
+// What comes of a file: the list of its sheet, with the boxes that were set, and the first fault, if there is one. It is no
+// `Result`: the list is handed back in both cases.
 #[derive(Clone, Copy)]
 pub struct Reading<'a> {
     pub list: Finished<'a>,

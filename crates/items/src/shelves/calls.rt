@@ -20,7 +20,7 @@ impl Shelf {
         }
     }
 
-    // How many staircases there are.
+    // How many staircases there are, as lines count them. The cast loses nothing, since 16 are the most.
     pub fn count(&self) -> u16
         ensures { result ≡ length (kept self.now) }
     {

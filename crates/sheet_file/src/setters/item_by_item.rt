@@ -11,6 +11,7 @@ use crate::setters::Setter;
 use items::faults::Located;
 use items::paragraphs::set_item;
 
+// What a setter holds is said at each call: it is of the setter before and after, which no type can say.
 impl<'s, 'a, 'f> Setter<'s, 'a, 'f> {
     // Sets the next line as an item.
     fn next_item(&mut self) -> Result<(), Located>
