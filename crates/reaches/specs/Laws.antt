@@ -37,13 +37,12 @@ reach_equals x y =
     let a = nat_eq x.box_left y.box_left in
     let b = nat_eq x.box_right y.box_right in
     let c = nat_eq x.area_left y.area_left in
-    let d = nat_eq x.area_right y.area_right in
-    (
-  λ e. let p = and_parts a (b && (c && d)) e in
-      let q = and_parts b (c && d) p.1 in
-      let r = and_parts c d q.1 in
-      same _ _ _ _ _ _ _ _ (eqb-true x.box_left y.box_left p.0) (eqb-true x.box_right y.box_right q.0) (eqb-true x.area_left y.area_left r.0) (eqb-true x.area_right y.area_right r.1),
-  λ e. and_from a (b && (c && d)) (eq-eqb x.box_left y.box_left (ap (λ (r : Reach). r.box_left) e))
-      (and_from b (c && d) (eq-eqb x.box_right y.box_right (ap (λ (r : Reach). r.box_right) e))
-      (and_from c d (eq-eqb x.area_left y.area_left (ap (λ (r : Reach). r.area_left) e)) (eq-eqb x.area_right y.area_right (ap (λ (r : Reach). r.area_right) e)))),
-)
+    let d = nat_eq x.area_right y.area_right in (
+      λ e. let p = and_parts a (b && (c && d)) e in
+          let q = and_parts b (c && d) p.1 in
+          let r = and_parts c d q.1 in
+          same _ _ _ _ _ _ _ _ (eqb-true x.box_left y.box_left p.0) (eqb-true x.box_right y.box_right q.0) (eqb-true x.area_left y.area_left r.0) (eqb-true x.area_right y.area_right r.1),
+      λ e. and_from a (b && (c && d)) (eq-eqb x.box_left y.box_left (ap (λ (r : Reach). r.box_left) e))
+          (and_from b (c && d) (eq-eqb x.box_right y.box_right (ap (λ (r : Reach). r.box_right) e))
+          (and_from c d (eq-eqb x.area_left y.area_left (ap (λ (r : Reach). r.area_left) e)) (eq-eqb x.area_right y.area_right (ap (λ (r : Reach). r.area_right) e)))),
+    )
