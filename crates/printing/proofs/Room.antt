@@ -8,7 +8,7 @@ use Rattle.printing.proofs.Laid.{counted_all, landed_all}
 pub room_enough : (n : ℕ) (out : List ℕ) (u : Unit {0}) → room_for n out ≡ Ok u → n ≤ length out
 room_enough n out u e =
     let refused : leb n (length out) ≡ false → n ≤ length out =
-    λ f. let g : room_for n out ≡ Err (record {}) = cond-false _ _ _ f in let z : ◌≡◌ {A = ℕ} 0 1 = cc in omega arith in
+    λ f. let g : room_for n out ≡ Err (record {}) = cond-false _ _ _ f in cc in
     ⊎_elim (leb-true n (length out)) refused (cases_Bool (leb n (length out)))
 
 -- what is laid at the front of memory that has room for as many bytes as are counted

@@ -1,6 +1,6 @@
 -- Every account of a run is orderly. Assumes nothing.
 use Rattle.std.proofs.Common.{◌≡◌, ℕ, ◌+◌, ◌<◌, ◌≤◌, Bool, true, false, not, ◌&&◌, ltb, leb, List, [], ◌∷◌, length, is_some, Some, None, Option, sym, refl, ap, ◌∙◌, subst, ⊎_elim, arith, ltb-true, leb-false, leb-true}
-use Rattle.std.proofs.lemmas.Bool.{cases_lt}
+use Rattle.std.proofs.lemmas.Bool.{cases_lt, and_parts, not-false}
 use Rattle.shapes.specs.Form.{Real}
 use Rattle.places.specs.declared.parts.Span.{Span}
 use Rattle.places.specs.declared.parts.Line.{Line}
@@ -30,14 +30,6 @@ none_three false true r d e f h = absurd (some_none refl h)
 none_three false false true d e f h = absurd (some_none refl h)
 none_three false false false d e f h = (refl, refl, refl)
 
-not_false : (b : Bool) → not b ≡ false → b ≡ true
-not_false true h = refl
-not_false false h = sym h
-
-and_both : (a b : Bool) → (a && b) ≡ true → (a ≡ true) × (b ≡ true)
-and_both true b h = (refl, h)
-and_both false b h = absurd (let x : ◌≡◌ {A = ℕ} 0 1 = cc in omega arith)
-
 -- a panel that begins below a line leaves its band
 below_band : (m : Span) (qs : List Placed) (p : Placed) (t n : ℕ) → t + n ≤ p.y → room (band m qs t n) ≤ room (band m (p ∷ qs) t n)
 below_band m qs p t n low =
@@ -54,12 +46,12 @@ below_band m qs p t n low =
 open_para : (z : Size) (A : Account) (m : Span) → early_open z A m ≡ None → (A.para ≡ None) × (A.count < most_paragraphs) × (m.from < m.to) × (m.to ≤ z.width)
 open_para z A m h =
     let t = none_three (is_some A.para) (leb most_paragraphs A.count) (not (ltb m.from m.to && leb m.to z.width)) AlreadyOpen ManyParagraphs BadMargins h in
-    let b = and_both (ltb m.from m.to) (leb m.to z.width) (not_false _ t.2) in
+    let b = and_parts (ltb m.from m.to) (leb m.to z.width) (not-false _ t.2) in
     (none_open A.para t.0, leb-false _ _ t.1, ltb-true _ _ b.0, leb-true _ _ b.1)
   where
     none_open : (o : Option Paragraph) → is_some o ≡ false → o ≡ None
     none_open None h = refl
-    none_open (Some p) h = absurd (let x : ◌≡◌ {A = ℕ} 0 1 = cc in omega arith)
+    none_open (Some p) h = cc
 
 -- no line is open where no paragraph is
 pub no_line : (z : Size) (A : Account) → Orderly z A → A.para ≡ None → (l : Line) → A.current ≡ Some l → ⊥

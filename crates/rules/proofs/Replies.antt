@@ -30,7 +30,7 @@ Replied z A c r = Step z A c r.answer r.after
 
 -- no paragraph is open, and none was refused for that
 none_open : (A : Account) → A.para ≡ None → closed A ≡ false → ⊥
-none_open A e h = let k : closed A ≡ true = ap (λ o. not (is_some o)) e in let x : ◌≡◌ {A = ℕ} 0 1 = cc in omega arith
+none_open A e h = let k : closed A ≡ true = ap (λ o. not (is_some o)) e in cc
 
 open_replied : (z : Size) (A : Account) (m : Span) (c : Clear) (o : Option Refusal) → early_open z A m ≡ o → Replied z A (opens m c) (unless o A (reply (opened (A.count + 1)) (with_open A m c)))
 open_replied z A m c (Some e) h = open_refused h

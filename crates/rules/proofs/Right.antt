@@ -32,10 +32,10 @@ stands_best (panel_done p e r k b) = record { paragraph = p; is_open = e; best =
 
 -- no early test answers with NoPlace
 never : (p q r : Bool) → first ((p, NoParagraph) ∷ (q, WidePanel) ∷ (r, ListFull) ∷ []) ≡ Some NoPlace → ⊥
-never true q r e = let x : ◌≡◌ {A = ℕ} 0 1 = cc in omega arith
-never false true r e = let x : ◌≡◌ {A = ℕ} 0 1 = cc in omega arith
-never false false true e = let x : ◌≡◌ {A = ℕ} 0 1 = cc in omega arith
-never false false false e = let x : ◌≡◌ {A = ℕ} 0 1 = cc in omega arith
+never true q r e = cc
+never false true r e = cc
+never false false true e = cc
+never false false false e = cc
 
 refused_same : {d e : Refusal} → refused d ≡ refused e → d ≡ e
 refused_same h = cc
@@ -43,7 +43,7 @@ refused_same h = cc
 turned : {z : Size} {A B : Account} {o : Wanted} {a : Answer} → Step z A (panels o) a B → a ≡ refused NoPlace → Placeless z A o
 turned {z} {A} (panel_refused {o = o} {e = e} h) q = absurd (never (closed A) (ltb (between A.para) o.form.wide) (full z A) (h ∙ ap Some (refused_same q)))
 turned (panel_none p e r k n) q = record { paragraph = p; is_open = e; none = n }
-turned (panel_done p e r k b) q = absurd (let x : ◌≡◌ {A = ℕ} 0 1 = cc in omega arith)
+turned (panel_done p e r k b) q = cc
 
 word_listed : {z : Size} {p : Paragraph} {sp a : ℕ} {A B : Account} → WordStep z p sp A a B → B.placed ≡ A.placed
 word_listed (word_joins l w j) = refl
@@ -110,9 +110,9 @@ fate {z} {B} {C} t (other c a k u s) l e = call_fate k (subst (λ X. Step z X c 
 -- Words without a row
 
 words_homeless : {z : Size} {p : Paragraph} {sp : ℕ} {A B : Account} {ws : List ℕ} {n : ℕ} {o : Option Refusal} → A.para ≡ Some p → Words z p sp A ws n o B → o ≡ Some NoPlace → (n < length ws) × Homeless z sp B (get_or ws n 0)
-words_homeless d all_set e = absurd (let x : ◌≡◌ {A = ℕ} 0 1 = cc in omega arith)
-words_homeless d (stopped (word_wide w)) e = absurd (let x : ◌≡◌ {A = ℕ} 0 1 = cc in omega arith)
-words_homeless d (stopped (word_full w n f)) e = absurd (let x : ◌≡◌ {A = ℕ} 0 1 = cc in omega arith)
+words_homeless d all_set e = cc
+words_homeless d (stopped (word_wide w)) e = cc
+words_homeless d (stopped (word_full w n f)) e = cc
 words_homeless {p} d (stopped (word_none w n f h)) e = (omega arith, record { paragraph = p; is_open = d; line = n; row = h })
 words_homeless d (one_set s w) e = let x = words_homeless (word_para s ∙ d) w e in (omega arith, x.1)
 

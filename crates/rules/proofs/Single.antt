@@ -1,5 +1,6 @@
 -- A call has one answer and leads to one account, so that the calls alone decide. Assumes nothing.
-use Rattle.std.proofs.Common.{◌≡◌, ℕ, suc, Bool, true, false, not, List, [], ◌∷◌, drop, is_some, Some, None, Option, sym, refl, ap, subst, ap₂, subst₂, arith}
+use Rattle.std.proofs.Common.{◌≡◌, ℕ, suc, true, not, List, ◌∷◌, drop, is_some, Some, None, Option, refl, ap, subst, ap₂, subst₂, arith}
+use Rattle.std.proofs.lemmas.Bool.{both_ways}
 use Rattle.places.specs.Permitted.{Wanted, Best}
 use Rattle.places.proofs.Nearest.{one_best}
 use Rattle.places.proofs.Tries.{one_least}
@@ -14,14 +15,11 @@ pub same_some : {A : Type 0} {o : Option A} {a b : A} → o ≡ Some a → o ≡
 same_some p q = cc
 
 pub some_none : {A : Type 0} {o : Option A} {a : A} → o ≡ Some a → o ≡ None → ⊥
-some_none p q = let x : ◌≡◌ {A = ℕ} 0 1 = cc in omega arith
-
-pub both : {b : Bool} → b ≡ true → b ≡ false → ⊥
-both p q = let x : ◌≡◌ {A = ℕ} 0 1 = cc in omega arith
+some_none p q = cc
 
 -- a paragraph that is open is not closed
 pub not_closed : (A : Account) {p : Paragraph} → A.para ≡ Some p → closed A ≡ true → ⊥
-not_closed A e c = both c (ap (λ o. not (is_some o)) e)
+not_closed A e c = both_ways _ (ap (λ o. not (is_some o)) e) c
 
 -- Words
 
@@ -37,9 +35,9 @@ refused_one (word_wide w) (word_full v n f) = absurd (omega arith)
 refused_one (word_wide w) (word_none v n f m) = absurd (omega arith)
 refused_one (word_full w n f) (word_wide v) = absurd (omega arith)
 refused_one (word_full w n f) (word_full v m g) = refl
-refused_one (word_full w n f) (word_none v m g h) = absurd (both f g)
+refused_one (word_full w n f) (word_none v m g h) = absurd (both_ways _ g f)
 refused_one (word_none w n f h) (word_wide v) = absurd (omega arith)
-refused_one (word_none w n f h) (word_full v m g) = absurd (both g f)
+refused_one (word_none w n f h) (word_full v m g) = absurd (both_ways _ f g)
 refused_one (word_none w n f h) (word_none v m g k) = refl
 
 set_refused : {z : Size} {p : Paragraph} {sp a : ℕ} {A B : Account} {e : Refusal} → WordStep z p sp A a B → WordRefused z p sp A a e → ⊥
@@ -47,7 +45,7 @@ set_refused (word_joins l w j) (word_wide v) = omega arith
 set_refused (word_joins l w j) (word_full v n f) = n l j
 set_refused (word_joins l w j) (word_none v n f h) = n l j
 set_refused (word_opens t w n f b) (word_wide v) = omega arith
-set_refused (word_opens t w n f b) (word_full v m g) = both g f
+set_refused (word_opens t w n f b) (word_full v m g) = both_ways _ f g
 set_refused (word_opens t w n f b) (word_none v m g h) = h t b.lies
 
 record Same (n n' : ℕ) (o o' : Option Refusal) (B B' : Account) : Type 0 where
@@ -96,15 +94,6 @@ step_one {z} {A} (end_done p e h) (end_done p' e' k) = (refl, ap (with_end z A) 
 
 -- Runs
 
-nil_cons : {c : Call} {cs : List Call} → [] ≡ c ∷ cs → ⊥
-nil_cons h = let x : ◌≡◌ {A = ℕ} 0 1 = cc in omega arith
-
-head_same : {c d : Call} {cs ds : List Call} → c ∷ cs ≡ d ∷ ds → c ≡ d
-head_same h = cc
-
-tail_same : {c d : Call} {cs ds : List Call} → c ∷ cs ≡ d ∷ ds → cs ≡ ds
-tail_same h = cc
-
 cons_one : {z : Size} {A A' B B' : Account} (e e' : Event) {es es' : List Event} → (es' ≡ es) × (A' ≡ A) → e'.call ≡ e.call → Step z A e.call e.answer B → Step z A' e'.call e'.answer B' → (e' ∷ es' ≡ e ∷ es) × (B' ≡ B)
 cons_one {z} {A} {A'} {B} {B'} e e' same called s s' =
     let moved : Step z A e.call e'.answer B' = subst₂ (λ X c. Step z X c e'.answer B') same.1 called s' in
@@ -114,6 +103,6 @@ cons_one {z} {A} {A'} {B} {B'} e e' same called s s' =
 
 pub alone : {z : Size} {past other : List Event} {A B : Account} → Run z past A → Run z other B → calls other ≡ calls past → (other ≡ past) × (B ≡ A)
 alone start start h = (refl, refl)
-alone start (next e r s) h = absurd (nil_cons (sym h))
-alone (next e r s) start h = absurd (nil_cons h)
-alone (next e r s) (next e' r' s') h = cons_one e e' (alone r r' (tail_same h)) (head_same h) s s'
+alone start (next e r s) h = cc
+alone (next e r s) start h = cc
+alone (next e r s) (next e' r' s') h = cons_one e e' (alone r r' (cc)) (cc) s s'

@@ -1,5 +1,5 @@
 -- What is made is a real form, and no box that is one is refused. Assumes nothing.
-use Rattle.std.proofs.Common.{◌≡◌, ℕ, ◌<◌, ◌≤◌, Bool, true, false, cond, ◌&&◌, Some, None, ap, subst, arith, refl}
+use Rattle.std.proofs.Common.{◌≡◌, ℕ, ◌<◌, ◌≤◌, Bool, true, false, cond, ◌&&◌, Some, None, ap, subst, refl}
 use Rattle.std.specs.Prelude.{nat_le}
 use Rattle.std.proofs.lemmas.Bool.{le-leb, and_from}
 use Rattle.shapes.specs.Form.{Form, Real, most_units}
@@ -15,15 +15,14 @@ range_from n some most = and_from (nat_le 1 n) (nat_le n most_units) (le-leb 1 n
 -- a form is made under its test only
 under_test : (b : Bool) (f g : Form) → cond b (Some f) None ≡ Some g → (b ≡ true → Real f) → Real g
 under_test true f g h real = let e : f ≡ g = cc in subst Real e (real refl)
-under_test false f g h real = let z : ◌≡◌ {A = ℕ} 0 1 = cc in let stop : ⊥ = omega arith in absurd stop
+under_test false f g h real = cc
 
 box_refused : (w p : ℕ) → make_box w p ≡ None → Real (box_form w p) → ⊥
 box_refused w p h real =
     let wide = range_from w real.wide_some real.wide_most in
     let tall = range_from p real.tall_some real.tall_most in
     let made = ap (λ b. cond b (Some (box_form w p)) None) (and_from (in_range w) (in_range p) wide tall) in
-    let z : ◌≡◌ {A = ℕ} 0 1 = cc in
-    omega arith
+    cc
 
 pub made_are_real : MadeAreReal
 made_are_real = record {
