@@ -62,12 +62,11 @@ fn lay_out(size: Size, lines: Lines<'_>, out: &mut String) -> Result<(), AllocEr
     requires { size.places ≤ most_places }
 {
     let mut cells = [Reach::default(); MOST_CELLS];
+    // The cast, since the length of an array is a constant, and `usize::from` gives none.
     let mut list = [BoxRecord::Line(LineBox::default()); MOST_PLACES as usize];
     let places = usize::from(size.places);
-    let first = match fault(size.sheet, cells.len()) {
-        None => Ok(Reply::Sheet),
-        Some(refusal) => Err(Denied::Call(refusal)),
-    };
+    let first = fault(size.sheet, cells.len())
+        .map_or(Ok(Reply::Sheet), |refusal| Err(Denied::from(refusal)));
     put(out, Row::Answer(first, None))?;
     let sheet = Sheet::new(size.sheet, &mut cells, &mut list[0..places]);
     let mut hand = Hand::new(sheet);

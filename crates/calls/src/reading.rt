@@ -102,7 +102,7 @@ fn read_passage<'a>(line: Line<'a>) -> Result<Passage<'a>, Fault>
     Ok(Passage { from, bytes })
 }
 
-// `steps SIDE CLEAR K W`, and then the rows and the extent of each of the K steps
+// `steps SIDE CLEAR K W`, and then the rows and the extent of each of the K steps.
 fn read_stairs(line: Line<'_>) -> Result<StairsPanel, Fault> {
     let mut fields = Fields::new(line);
     fields.take(&Word { text: b"steps" })?;

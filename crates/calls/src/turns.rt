@@ -29,7 +29,7 @@ use sheet::sheet::Sheet;
 use sheet::slips::Slip;
 use text::{Run, Text, Word};
 
-// Places a panel of this shape, if the numbers made one.
+// Places a panel of this shape, if the numbers made one. It stands beside that of `items`, since the answer here is printed.
 fn place<S: Shape + Drop>(
     sheet: &mut Sheet<'_>,
     shape: Result<S, NoShape>,
@@ -59,7 +59,8 @@ fn stairs(sheet: &mut Sheet<'_>, panel: StairsPanel) -> Answer
     place(sheet, shape, panel.side, panel.clear)
 }
 
-// Measures the text and sets its words, from the given one on.
+// Measures the text and sets its words, from the given one on. That of `items` refuses what is not set in full; this one
+// answers how far it came, so that neither is the other with another error.
 fn flow<M: Metrics>(
     sheet: &mut Sheet<'_>,
     metrics: &M,
@@ -79,10 +80,7 @@ fn spend(sheet: &mut Sheet<'_>, own: Slip)
     requires { open_number sheet.old ≡ Some own.number }
     ensures { Tells (ends own.number) ended sheet.old sheet.new }
 {
-    match sheet.end(own) {
-        Ok(()) => {}
-        Err(_) => unreachable(),
-    }
+    sheet.end(own).unwrap();
 }
 
 impl<'a> Hand<'a> {
@@ -101,6 +99,7 @@ impl<'a> Hand<'a> {
         ensures { Opens opening.margins opening.clear result self.new.slip self.old.sheet self.new.sheet }
     {
         let slip = self.sheet.open(opening.margins, opening.clear)?;
+        // Both arms stand, since a slip that is let go wants a proof that there is none.
         match self.slip.replace(slip) {
             None => {}
             Some(_) => unreachable(),
@@ -139,6 +138,7 @@ impl<'a> Hand<'a> {
         let Some(ask) = read(line) else {
             return Row::Answer(Ok(Reply::Skipped), None);
         };
+        // Each kind of line is another call, so that the kinds are told apart here and nowhere else.
         let answer = match ask {
             Ask::Sheet(_) => return Row::Answer(Ok(Reply::Skipped), None),
             Ask::Metric(asked) => return Row::Answer(self.set_metric(asked), None),
