@@ -9,7 +9,7 @@ use crate::lines::Line;
 use crate::marks::{Mark, run};
 
 // The fields of a line from a place on, parted by one space. One past the line's length is the place
-// where no field is left.
+// where no field is left. The line stays whole, since a fault tells the offset in it.
 #[derive(Drop)]
 pub struct Fields<'a> {
     line: Line<'a>,
@@ -61,10 +61,7 @@ impl<'a> Fields<'a> {
         let Some(field) = self.next() else {
             return Err(missing);
         };
-        let Some(value) = kind.value(field) else {
-            return Err(unfit);
-        };
-        Ok(value)
+        kind.value(field).ok_or(unfit)
     }
 
     // No field is left, and the line is ended.

@@ -8,7 +8,7 @@ ghost use Rattle.lexer.specs.LinesLeft.{left, line_of};
 use crate::faults::{Cause, Fault};
 use crate::marks::{Mark, run};
 
-// A line without the byte that ends it, and whether that byte is there.
+// A line without the byte that ends it, and whether that byte is there: an unended line is judged only after its fields, so both are wanted.
 #[derive(Clone, Copy)]
 pub struct Line<'a> {
     pub bytes: &'a [u8],

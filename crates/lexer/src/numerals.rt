@@ -5,7 +5,7 @@ ghost use Rattle.lexer.specs.Numerals.{numeral, reads, most_digits, NumeralsStan
 // The most digits that a number has.
 const MOST_DIGITS: usize = 5;
 
-// The number that digits write, or nothing where a byte is no digit.
+// The number that digits write, or nothing where a byte is no digit. By a `for`, since a fold's closure would hide that the loop ends early.
 fn digits(bytes: &[u8]) -> Option<u32>
     requires { length bytes.now ≤ most_digits }
     ensures { result ≡ reads 0 bytes.now }

@@ -4,6 +4,9 @@
 --     steps_from k line p ss  the steps ss, then the k pairs from the place p on, and the place behind them
 --     steps_said r            the flight that the code holds as r
 --     climbed p r             the steps that the code holds as r, with the place p
+--     Flown                   a flight, and the place behind it
+--     flight_from line p      a flight `K W` with its pairs from the place p on, and the place behind it
+--     flown p r               the flight that the code holds as r, with the place p
 use Rattle.std.specs.Prelude.{ℕ, zero, suc, List, [], ◌∷◌, ◌++◌, Ok, Err, codes, Result}
 use Rattle.lexer.specs.declared.faults.Fault.{Fault}
 use Rattle.lexer.specs.Forms.{after, word, a_number, number_within, take, finish}
@@ -45,3 +48,19 @@ steps_said (Err e) = Err e
 abbrev pub climbed : ℕ → Result Steps Fault → Result Climb Fault
 climbed p (Ok ss) = Ok (record { steps = steps_in ss; place = p })
 climbed p (Err e) = Err e
+
+-- a flight, and the place behind it
+pub record Flown : Type 0 where
+  pub flight : Flight
+  pub place : ℕ
+
+abbrev pub flight_from : List ℕ → ℕ → Result Flown Fault
+flight_from line p =
+    take (number_within 1 most_steps) line p
+    (λ k q. take a_number line q
+    (λ w r. after (steps_from k line r [])
+    (λ c. Ok (record { flight = record { width = w; steps = c.steps }; place = c.place }))))
+
+abbrev pub flown : ℕ → Result StepsLine Fault → Result Flown Fault
+flown p (Ok s) = Ok (record { flight = record { width = s.width; steps = steps_in s.steps }; place = p })
+flown p (Err e) = Err e

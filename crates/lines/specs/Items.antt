@@ -1,7 +1,10 @@
 -- The items of a paragraph, one line each. Assumes nothing.
 --     ItemForm               what an item says: the bytes of a text, a plain box, or one of the shapes
 --     item_form shapes l     what an item's line says, where there are so many shapes: its first field is its keyword
---     plain_form l p         `SIDE CLEAR W P` from the place p on
+--     Boxed                  a plain box, and the place behind it
+--     box_from line p        `SIDE CLEAR W P` from the place p on, and the place behind it
+--     boxed p r              the plain box that the code holds as r, with the place p
+--     plain_form l p         `SIDE CLEAR W P` from the place p on, to the line's end
 --     shaped_form n l p      `SIDE CLEAR I` from p on, with I below n
 --     text_form l p          all bytes from p on, and there may be none; p past the line's end says that the space is missing
 --     item_said r            the same of what the code holds as r
@@ -33,6 +36,23 @@ text_form l p =
     cond (nat_le p (length l.bytes))
     (after (closing l.ended l.bytes) (λ _. Ok (text (drop p l.bytes))))
     (Err (fault Field p))
+
+-- a plain box, and the place behind it
+pub record Boxed : Type 0 where
+  pub box : PlainLine
+  pub place : ℕ
+
+abbrev pub box_from : List ℕ → ℕ → Result Boxed Fault
+box_from line p =
+    take a_side line p
+    (λ s q. take a_clear line q
+    (λ c r. take a_number line r
+    (λ w t. take a_number line t
+    (λ h u. Ok (record { box = record { side = s; clear = c; width = w; height = h }; place = u })))))
+
+abbrev pub boxed : ℕ → Result PlainLine Fault → Result Boxed Fault
+boxed p (Ok b) = Ok (record { box = b; place = p })
+boxed p (Err e) = Err e
 
 abbrev pub plain_form : FileLine → ℕ → Result ItemForm Fault
 plain_form l p =

@@ -2,7 +2,7 @@
 ghost use Rattle.std.specs.Prelude.{◌≡◌, ◌≤◌, []};
 ghost use Rattle.lexer.specs.LinesLeft.{line_of};
 ghost use Rattle.shapes.specs.Staircase.{most_steps};
-ghost use Rattle.lines.specs.Flights.{steps_form, steps_from, steps_said, climbed};
+ghost use Rattle.lines.specs.Flights.{steps_form, steps_from, steps_said, climbed, flight_from, flown};
 
 use lexer::faults::Fault;
 use lexer::fields::Fields;
@@ -18,7 +18,7 @@ pub struct StepsLine {
 }
 
 // The rows and the extents of so many steps, at most 16; the cursor moves past them.
-pub fn take_steps(fields: &mut Fields<'_>, count: u16) -> Result<Steps, Fault>
+fn take_steps(fields: &mut Fields<'_>, count: u16) -> Result<Steps, Fault>
     requires { count ≤ most_steps }
     ensures value { climbed fields.new.place result ≡ steps_from count fields.old.line.bytes.now fields.old.place [] }
     ensures line { fields.new.line ≡ fields.old.line }
@@ -32,18 +32,28 @@ pub fn take_steps(fields: &mut Fields<'_>, count: u16) -> Result<Steps, Fault>
     Ok(steps)
 }
 
+// `K W` and K pairs ROWS EXTENT, with K 1 to 16, as they stand behind the keyword of a flight; the cursor moves past them.
+// The cast is proved to lose nothing; `try_from` would only add an `unwrap`.
+pub fn take_flight(fields: &mut Fields<'_>) -> Result<StepsLine, Fault>
+    ensures value { flown fields.new.place result ≡ flight_from fields.old.line.bytes.now fields.old.place }
+    ensures line { fields.new.line ≡ fields.old.line }
+{
+    let count = fields.take(&Within {
+        low: 1,
+        high: MOST_STEPS as u16,
+    })?;
+    let width = fields.take(&Number)?;
+    let steps = take_steps(fields, count)?;
+    Ok(StepsLine { width, steps })
+}
+
 // `steps K W` and K pairs ROWS EXTENT, with K 1 to 16. Whether they make a staircase is left open.
 pub fn steps_line(line: Line<'_>) -> Result<StepsLine, Fault>
     ensures { steps_said result ≡ steps_form (line_of line.entry) }
 {
     let mut fields = Fields::new(line);
     fields.take(&Word { text: b"steps" })?;
-    let count = fields.take(&Within {
-        low: 1,
-        high: MOST_STEPS as u16,
-    })?;
-    let width = fields.take(&Number)?;
-    let steps = take_steps(&mut fields, count)?;
+    let flight = take_flight(&mut fields)?;
     fields.end()?;
-    Ok(StepsLine { width, steps })
+    Ok(flight)
 }

@@ -2,7 +2,7 @@
 ghost use Rattle.std.specs.Prelude.{◌≡◌};
 ghost use Rattle.lexer.specs.FieldsLeft.{seen};
 ghost use Rattle.lexer.specs.LinesLeft.{line_of};
-ghost use Rattle.lines.specs.Items.{item_form, item_said, text_in, fields_form};
+ghost use Rattle.lines.specs.Items.{item_form, item_said, text_in, fields_form, box_from, boxed};
 
 use crate::bounds::Below;
 use crate::names::{ClearName, ItemName, ItemWord, SideName};
@@ -37,6 +37,23 @@ pub enum Item<'a> {
     Shaped(ShapedLine),
 }
 
+// `SIDE CLEAR W P`, as it stands behind the keyword of a plain box; the cursor moves past it.
+pub fn take_plain(fields: &mut Fields<'_>) -> Result<PlainLine, Fault>
+    ensures value { boxed fields.new.place result ≡ box_from fields.old.line.bytes.now fields.old.place }
+    ensures line { fields.new.line ≡ fields.old.line }
+{
+    let side = fields.take(&SideName)?;
+    let clear = fields.take(&ClearName)?;
+    let width = fields.take(&Number)?;
+    let height = fields.take(&Number)?;
+    Ok(PlainLine {
+        side,
+        clear,
+        width,
+        height,
+    })
+}
+
 // An item of fields. The keyword `text` has no space behind it here.
 fn fields_line<'a>(line: Line<'a>, shapes: u16) -> Result<Item<'a>, Fault>
     ensures { item_said result ≡ fields_form shapes (line_of line.entry) }
@@ -45,17 +62,9 @@ fn fields_line<'a>(line: Line<'a>, shapes: u16) -> Result<Item<'a>, Fault>
     match fields.take(&ItemName)? {
         ItemWord::Text => Err(fields.fault(Cause::Field)),
         ItemWord::Plain => {
-            let side = fields.take(&SideName)?;
-            let clear = fields.take(&ClearName)?;
-            let width = fields.take(&Number)?;
-            let height = fields.take(&Number)?;
+            let plain = take_plain(&mut fields)?;
             fields.end()?;
-            Ok(Item::Plain(PlainLine {
-                side,
-                clear,
-                width,
-                height,
-            }))
+            Ok(Item::Plain(plain))
         }
         ItemWord::Shaped => {
             let side = fields.take(&SideName)?;

@@ -15,13 +15,13 @@ mod examples;
 // Flights of steps, the shapes of a sheet.
 pub mod flights;
 
-// The sheet and its metrics.
+// The sheet; the metric line is passed on from `scales`.
 pub mod headings;
 
 // The items of a paragraph: texts, boxes and shapes.
 pub mod items;
 
-// The names of sides, clears and families, and the keywords of items.
+// The names of sides and clears, and the keywords of items.
 pub mod names;
 
 // The line that a paragraph begins with.

@@ -5,7 +5,7 @@ use lexer::faults::Cause;
 use lexer::kinds::Kind;
 use shapes::sides::{Clear, Side};
 
-// A field that names a side.
+// A field that names a side. One kind over the values of this one and the two below would still want the names and their meaning of each.
 #[derive(Clone, Copy)]
 pub struct SideName;
 

@@ -2,19 +2,30 @@
 ghost use Rattle.std.specs.Prelude.{◌≡◌};
 ghost use Rattle.lexer.specs.LinesLeft.{line_of};
 ghost use Rattle.scales.specs.Headings.{metric_form};
+ghost use Rattle.scales.specs.Scales.{family_advances, made};
 
-use crate::Family;
 use crate::names::FamilyName;
+use crate::{Family, Scale};
 use lexer::faults::Fault;
 use lexer::fields::Fields;
 use lexer::kinds::{Number, Word};
 use lexer::lines::Line;
+use metrics::Unfit;
 
 // A family of metrics, and the advance of its cell or the size of its table.
 #[derive(Clone, Copy)]
 pub struct MetricLine {
     pub family: Family,
     pub number: u16,
+}
+
+impl MetricLine {
+    // The metrics that the line asks for, if there is such a one.
+    pub fn scale(self) -> Result<Scale, Unfit>
+        ensures { made result ≡ family_advances self.family self.number }
+    {
+        Scale::new(self.family, self.number)
+    }
 }
 
 // `metric cell C` or `metric table Q`. Whether there is such a metrics is left open.

@@ -5,7 +5,7 @@ use crate::Family;
 use lexer::faults::Cause;
 use lexer::kinds::Kind;
 
-// A field that names a family of metrics.
+// A field that names a family of metrics. One kind over all such values would still want the names and their meaning of each.
 #[derive(Clone, Copy)]
 pub struct FamilyName;
 

@@ -1,4 +1,5 @@
 -- The metric line, with which a file begins. Assumes nothing.
+--     or_unfit o       the advances o, else the refusal that there is no such metrics
 --     advances_of l    the advances of the metrics that the metric line l asks for
 --     advances_in r    the advances of the metrics that the code holds as r
 use Rattle.std.specs.Prelude.{ℕ, Some, None, Ok, Err, Option, Result}

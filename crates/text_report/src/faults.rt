@@ -12,6 +12,7 @@ use metrics::Unfit;
 use text::{TextFault, Unmeasured};
 
 // Why a line is refused; each layer's own fault is kept as it is.
+// An enum of the kinds that `items` has too, nested here, would still want each of the four `From` for `?`.
 #[derive(Clone, Copy)]
 pub enum FileFault {
     // The line is not of its form.
@@ -68,6 +69,7 @@ impl Reason for FileFault {
         }
     }
 
+    // By a match: the numbers of the layers are gathered here, and a kind that holds a fault has none by `as`.
     fn cause(&self) -> u8 {
         match self {
             FileFault::Form(fault) => fault.cause.number(),

@@ -12,6 +12,5 @@ use scales::headings::metric_line;
 pub fn asked(line: Line<'_>) -> Result<Scale, FileFault>
     ensures { advances_in result ≡ advances_of (line_of line.entry) }
 {
-    let said = metric_line(line)?;
-    Ok(Scale::new(said.family, said.number)?)
+    Ok(metric_line(line)?.scale()?)
 }

@@ -8,7 +8,7 @@ use fault_lines::tellings::FaultLine;
 use std::alloc::{AllocError, Global};
 
 // What is reported of a file: a line for each of its texts and the total, or its first fault alone.
-// The one other answer is that there is no memory left.
+// The one other answer is that there is no memory left. The three arms do three things: list, tell a fault, and hand an error on.
 pub fn report(heap: Global, file: &[u8]) -> Result<String, AllocError>
     ensures { IfOk result (λ s. string_bytes s ≡ report_of file.now) }
 {

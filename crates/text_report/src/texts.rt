@@ -29,6 +29,7 @@ impl fmt::Display for Measured {
 }
 
 // What the text on this line of the file measures to, in memory for the longest text.
+// Words and cells stand apart: a lent slice keeps its length over a call with no clause, and a struct of both would need one.
 pub(crate) fn measure_text<M: Metrics>(
     metrics: &M,
     number: usize,
