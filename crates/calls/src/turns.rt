@@ -11,14 +11,14 @@ ghost use Rattle.sheet.specs.Sheets.{open_number, Tells};
 ghost use Rattle.calls.specs.Scales.{advances_of};
 ghost use Rattle.calls.specs.Turns.{Opens, Places, Flows, Ends};
 
-use crate::asks::{Ask, Opening, Passage, PlainPanel, StairsPanel};
+use crate::asks::{Ask, Opening, Passage, StairsPanel};
 use crate::hands::Hand;
 use crate::reading::read;
 use crate::replies::{Answer, Reply, Row};
 use lexer::lines::Line;
+use lines::items::PlainLine;
 use metrics::advances::Metrics;
 use rules::refusals::Refusal;
-use scales::Scale;
 use scales::headings::MetricLine;
 use shapes::orders::Order;
 use shapes::plain::Plain;
@@ -28,6 +28,8 @@ use shapes::{NoShape, Shape};
 use sheet::sheet::Sheet;
 use sheet::slips::Slip;
 use text::{Run, Text, Word};
+
+// At each function that places or sets, `number` says that the same paragraph stays open, where `told` says what was called.
 
 // Places a panel of this shape, if the numbers made one. It stands beside that of `items`, since the answer here is printed.
 fn place<S: Shape + Drop>(
@@ -43,7 +45,7 @@ fn place<S: Shape + Drop>(
     Ok(Reply::Panel(sheet.panel(Order { shape, side, clear })?))
 }
 
-fn plain(sheet: &mut Sheet<'_>, panel: PlainPanel) -> Answer
+fn plain(sheet: &mut Sheet<'_>, panel: PlainLine) -> Answer
     ensures number { open_number sheet.new ≡ open_number sheet.old }
     ensures told { Places panel.side panel.clear (make_box panel.width panel.height) result sheet.old sheet.new }
 {
@@ -53,9 +55,9 @@ fn plain(sheet: &mut Sheet<'_>, panel: PlainPanel) -> Answer
 
 fn stairs(sheet: &mut Sheet<'_>, panel: StairsPanel) -> Answer
     ensures number { open_number sheet.new ≡ open_number sheet.old }
-    ensures told { Places panel.side panel.clear (make_stairs panel.width (steps_in panel.steps)) result sheet.old sheet.new }
+    ensures told { Places panel.side panel.clear (make_stairs panel.flight.width (steps_in panel.flight.steps)) result sheet.old sheet.new }
 {
-    let shape = Stairs::new(u32::from(panel.width), panel.steps.as_slice());
+    let shape = Stairs::new(u32::from(panel.flight.width), panel.flight.steps.as_slice());
     place(sheet, shape, panel.side, panel.clear)
 }
 
@@ -90,7 +92,7 @@ impl<'a> Hand<'a> {
         ensures slip { self.new.slip ≡ self.old.slip }
         ensures scale { OnErr result (self.new.scale ≡ self.old.scale) }
     {
-        self.scale = Scale::new(asked.family, asked.number)?;
+        self.scale = asked.scale()?;
         Ok(Reply::Metric)
     }
 
