@@ -1,5 +1,6 @@
 -- The slip that a script has in hand. Assumes nothing.
---     InHand o s    the slip o, if there is one, is that of the open paragraph of s
+--     InHand o s         the slip o, if there is one, is that of the open paragraph of s
+--     in_hand_prop o s   that holds in one way at most
 use Rattle.std.specs.Prelude.{◌≡◌, Some, None, Option}
 use Rattle.std.specs.Coded.{Coded-set, coded_option, coded_ℕ, Unit-prop}
 use Rattle.sheet.specs.declared.sheet.Sheet.{Sheet}

@@ -12,8 +12,8 @@ use Rattle.lexer.specs.Forms.{fault, word, a_number, number_within, take, finish
 use Rattle.lexer.specs.Lines.{FileLine}
 use Rattle.calls.specs.declared.asks.Size.{Size}
 use Rattle.calls.specs.declared.asks.Opening.{Opening}
-use Rattle.calls.specs.declared.asks.PlainPanel.{PlainPanel}
 use Rattle.calls.specs.declared.asks.Passage.{Passage}
+use Rattle.lines.specs.declared.items.PlainLine.{PlainLine}
 use Rattle.lines.specs.Names.{a_side, a_clear}
 
 -- the most places of a list
@@ -37,7 +37,7 @@ opening_form l =
     (λ n r. take a_clear l.bytes r
     (λ c s. finish l.ended l.bytes s (record { margins = record { from = m; to = n }; clear = c })))))
 
-abbrev pub plain_form : FileLine → Result PlainPanel Fault
+abbrev pub plain_form : FileLine → Result PlainLine Fault
 plain_form l =
     take (word (codes "box")) l.bytes 0
     (λ _ p. take a_side l.bytes p

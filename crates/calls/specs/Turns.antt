@@ -1,4 +1,5 @@
 -- What the answer to a line says of the sheet. Assumes nothing.
+--     Answered               a reply, or a refusal
 --     Shows c r s t           the call c led from s to t, and r shows its answer
 --     Uncalled a r s t        no call was made: r is a, and s is as it was
 --     Opens m c r o s t       a paragraph was asked for, and o is the slip in hand after it

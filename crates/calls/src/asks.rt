@@ -1,8 +1,9 @@
 // What a line of a script asks for.
+use lines::flights::StepsLine;
+use lines::items::PlainLine;
 use places::parts::Span;
 use scales::headings::MetricLine;
 use shapes::sides::{Clear, Side};
-use shapes::stairs::Steps;
 use sheet::sizes::SheetSize;
 
 // A new sheet: its size, and the places of its list.
@@ -19,22 +20,12 @@ pub struct Opening {
     pub clear: Clear,
 }
 
-// A panel that is a plain box.
-#[derive(Clone, Copy)]
-pub struct PlainPanel {
-    pub side: Side,
-    pub clear: Clear,
-    pub width: u16,
-    pub height: u16,
-}
-
 // A panel that is a staircase.
 #[derive(Clone, Copy)]
 pub struct StairsPanel {
     pub side: Side,
     pub clear: Clear,
-    pub width: u16,
-    pub steps: Steps,
+    pub flight: StepsLine,
 }
 
 // The words of a text from a given one on, counted from 0.
@@ -49,7 +40,7 @@ pub enum Ask<'a> {
     Sheet(Size),
     Metric(MetricLine),
     Open(Opening),
-    Plain(PlainPanel),
+    Plain(PlainLine),
     Stairs(StairsPanel),
     Text(Passage<'a>),
     End,

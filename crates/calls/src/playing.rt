@@ -18,6 +18,8 @@ use text::{MOST_RUNS, MOST_WORDS, Run, Word};
 // The cells that the highest sheet needs.
 const MOST_CELLS: usize = 8192;
 
+// The lines and what is printed stay two arguments: what is printed is handed on without the lines, too.
+
 // Adds a line to what is printed.
 fn put(out: &mut String, row: Row) -> Result<(), AllocError>
     ensures { OnOk result (string_bytes out.new ≡ string_bytes out.old ++ row_line row) }
@@ -62,12 +64,13 @@ fn lay_out(size: Size, lines: Lines<'_>, out: &mut String) -> Result<(), AllocEr
     requires { size.places ≤ most_places }
 {
     let mut cells = [Reach::default(); MOST_CELLS];
+    // The cast, since the length of an array is a constant, and `usize::from` gives none.
     let mut list = [BoxRecord::Line(LineBox::default()); MOST_PLACES as usize];
     let places = usize::from(size.places);
-    let first = match fault(size.sheet, cells.len()) {
-        None => Ok(Reply::Sheet),
-        Some(refusal) => Err(Denied::Call(refusal)),
-    };
+    let first = fault(size.sheet, cells.len()).map_or(
+        Ok(Reply::Sheet),
+        |refusal| Err(Denied::from(refusal)),
+    );
     put(out, Row::Answer(first, None))?;
     let sheet = Sheet::new(size.sheet, &mut cells, &mut list[0..places]);
     let mut hand = Hand::new(sheet);

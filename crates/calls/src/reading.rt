@@ -3,16 +3,17 @@ ghost use Rattle.std.specs.Prelude.{◌≡◌, ◌≤◌, IfSome, IfOk};
 ghost use Rattle.lexer.specs.LinesLeft.{line_of};
 ghost use Rattle.calls.specs.Lines.{most_places, size_form, opening_form, plain_form, said, passage_form, word_form};
 
-use crate::asks::{Ask, Opening, Passage, PlainPanel, Size, StairsPanel};
+use crate::asks::{Ask, Opening, Passage, Size, StairsPanel};
 use lexer::faults::{Cause, Fault};
 use lexer::fields::Fields;
 use lexer::kinds::{Number, Within, Word};
 use lexer::lines::Line;
-use lines::flights::take_steps;
+use lines::flights::take_flight;
+use lines::headings::{SheetLine, take_size};
+use lines::items::PlainLine;
 use lines::names::{ClearName, SideName};
 use places::parts::Span;
 use scales::headings::metric_line;
-use shapes::stairs::MOST_STEPS;
 use sheet::sizes::SheetSize;
 
 // The most places of a list.
@@ -25,9 +26,11 @@ fn read_size(line: Line<'_>) -> Result<Size, Fault>
 {
     let mut fields = Fields::new(line);
     fields.take(&Word { text: b"sheet" })?;
-    let width = fields.take(&Number)?;
-    let height = fields.take(&Number)?;
-    let rows = fields.take(&Number)?;
+    let SheetLine {
+        width,
+        height,
+        line: rows,
+    } = take_size(&mut fields)?;
     let places = fields.take(&Within {
         low: 0,
         high: MOST_PLACES,
@@ -63,17 +66,18 @@ fn read_opening(line: Line<'_>) -> Result<Opening, Fault>
 }
 
 // `box SIDE CLEAR W P`
-fn read_plain(line: Line<'_>) -> Result<PlainPanel, Fault>
+fn read_plain(line: Line<'_>) -> Result<PlainLine, Fault>
     ensures { result ≡ plain_form (line_of line.entry) }
 {
     let mut fields = Fields::new(line);
     fields.take(&Word { text: b"box" })?;
+    // By its fields: over `take_plain` of `lines` the proof of this contract doesn't close by itself.
     let side = fields.take(&SideName)?;
     let clear = fields.take(&ClearName)?;
     let width = fields.take(&Number)?;
     let height = fields.take(&Number)?;
     fields.end()?;
-    Ok(PlainPanel {
+    Ok(PlainLine {
         side,
         clear,
         width,
@@ -102,24 +106,18 @@ fn read_passage<'a>(line: Line<'a>) -> Result<Passage<'a>, Fault>
     Ok(Passage { from, bytes })
 }
 
-// `steps SIDE CLEAR K W`, and then the rows and the extent of each of the K steps
+// `steps SIDE CLEAR K W`, and then the rows and the extent of each of the K steps.
 fn read_stairs(line: Line<'_>) -> Result<StairsPanel, Fault> {
     let mut fields = Fields::new(line);
     fields.take(&Word { text: b"steps" })?;
     let side = fields.take(&SideName)?;
     let clear = fields.take(&ClearName)?;
-    let count = fields.take(&Within {
-        low: 1,
-        high: MOST_STEPS as u16,
-    })?;
-    let width = fields.take(&Number)?;
-    let steps = take_steps(&mut fields, count)?;
+    let flight = take_flight(&mut fields)?;
     fields.end()?;
     Ok(StairsPanel {
         side,
         clear,
-        width,
-        steps,
+        flight,
     })
 }
 

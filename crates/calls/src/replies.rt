@@ -60,8 +60,8 @@ impl From<Refusal> for Denied {
 impl From<NoShape> for Denied {
     ghost from_gives = { λ _ y. y ≡ Call R.NoShape };
 
-    fn from(_refusal: NoShape) -> Denied {
-        Denied::Call(Refusal::NoShape)
+    fn from(refusal: NoShape) -> Denied {
+        Denied::Call(Refusal::from(refusal))
     }
 }
 

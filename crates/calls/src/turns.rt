@@ -11,14 +11,14 @@ ghost use Rattle.sheet.specs.Sheets.{open_number, Tells};
 ghost use Rattle.calls.specs.Scales.{advances_of};
 ghost use Rattle.calls.specs.Turns.{Opens, Places, Flows, Ends};
 
-use crate::asks::{Ask, Opening, Passage, PlainPanel, StairsPanel};
+use crate::asks::{Ask, Opening, Passage, StairsPanel};
 use crate::hands::Hand;
 use crate::reading::read;
 use crate::replies::{Answer, Reply, Row};
 use lexer::lines::Line;
+use lines::items::PlainLine;
 use metrics::advances::Metrics;
 use rules::refusals::Refusal;
-use scales::Scale;
 use scales::headings::MetricLine;
 use shapes::orders::Order;
 use shapes::plain::Plain;
@@ -29,7 +29,9 @@ use sheet::sheet::Sheet;
 use sheet::slips::Slip;
 use text::{Run, Text, Word};
 
-// Places a panel of this shape, if the numbers made one.
+// At each function that places or sets, `number` says that the same paragraph stays open, where `told` says what was called.
+
+// Places a panel of this shape, if the numbers made one. It stands beside that of `items`, since the answer here is printed.
 fn place<S: Shape + Drop>(
     sheet: &mut Sheet<'_>,
     shape: Result<S, NoShape>,
@@ -43,7 +45,7 @@ fn place<S: Shape + Drop>(
     Ok(Reply::Panel(sheet.panel(Order { shape, side, clear })?))
 }
 
-fn plain(sheet: &mut Sheet<'_>, panel: PlainPanel) -> Answer
+fn plain(sheet: &mut Sheet<'_>, panel: PlainLine) -> Answer
     ensures number { open_number sheet.new ≡ open_number sheet.old }
     ensures told { Places panel.side panel.clear (make_box panel.width panel.height) result sheet.old sheet.new }
 {
@@ -53,13 +55,14 @@ fn plain(sheet: &mut Sheet<'_>, panel: PlainPanel) -> Answer
 
 fn stairs(sheet: &mut Sheet<'_>, panel: StairsPanel) -> Answer
     ensures number { open_number sheet.new ≡ open_number sheet.old }
-    ensures told { Places panel.side panel.clear (make_stairs panel.width (steps_in panel.steps)) result sheet.old sheet.new }
+    ensures told { Places panel.side panel.clear (make_stairs panel.flight.width (steps_in panel.flight.steps)) result sheet.old sheet.new }
 {
-    let shape = Stairs::new(u32::from(panel.width), panel.steps.as_slice());
+    let shape = Stairs::new(u32::from(panel.flight.width), panel.flight.steps.as_slice());
     place(sheet, shape, panel.side, panel.clear)
 }
 
-// Measures the text and sets its words, from the given one on.
+// Measures the text and sets its words, from the given one on. That of `items` refuses what is not set in full; this one
+// answers how far it came, so that neither is the other with another error.
 fn flow<M: Metrics>(
     sheet: &mut Sheet<'_>,
     metrics: &M,
@@ -79,10 +82,7 @@ fn spend(sheet: &mut Sheet<'_>, own: Slip)
     requires { open_number sheet.old ≡ Some own.number }
     ensures { Tells (ends own.number) ended sheet.old sheet.new }
 {
-    match sheet.end(own) {
-        Ok(()) => {}
-        Err(_) => unreachable(),
-    }
+    sheet.end(own).unwrap();
 }
 
 impl<'a> Hand<'a> {
@@ -92,7 +92,7 @@ impl<'a> Hand<'a> {
         ensures slip { self.new.slip ≡ self.old.slip }
         ensures scale { OnErr result (self.new.scale ≡ self.old.scale) }
     {
-        self.scale = Scale::new(asked.family, asked.number)?;
+        self.scale = asked.scale()?;
         Ok(Reply::Metric)
     }
 
@@ -101,6 +101,7 @@ impl<'a> Hand<'a> {
         ensures { Opens opening.margins opening.clear result self.new.slip self.old.sheet self.new.sheet }
     {
         let slip = self.sheet.open(opening.margins, opening.clear)?;
+        // Both arms stand, since a slip that is let go wants a proof that there is none.
         match self.slip.replace(slip) {
             None => {}
             Some(_) => unreachable(),
@@ -139,6 +140,7 @@ impl<'a> Hand<'a> {
         let Some(ask) = read(line) else {
             return Row::Answer(Ok(Reply::Skipped), None);
         };
+        // Each kind of line is another call, so that the kinds are told apart here and nowhere else.
         let answer = match ask {
             Ask::Sheet(_) => return Row::Answer(Ok(Reply::Skipped), None),
             Ask::Metric(asked) => return Row::Answer(self.set_metric(asked), None),

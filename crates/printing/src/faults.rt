@@ -30,6 +30,7 @@ impl Printable for FaultLine {
     fn lay(&self, page: &mut Page<'_>) {
         page.text(b"fault ");
         layer_word(page, self.layer);
+        // The casts are proved to lose nothing; `try_from` would only add an `unwrap`.
         page.numbers(&[self.line as u64, u64::from(self.cause), self.place as u64]);
     }
 }

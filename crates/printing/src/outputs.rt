@@ -11,11 +11,13 @@ use crate::pages::Page;
 pub struct ShortOutput;
 
 impl ShortOutput {
+    const NUMBER: u8 = 13;
+
     // The number by which the refusal is known outside.
     pub fn number(self) -> u8
         ensures { result ≡ short_output }
     {
-        13
+        Self::NUMBER
     }
 }
 

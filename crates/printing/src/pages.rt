@@ -7,6 +7,7 @@ ghost use Rattle.printing.specs.Laying.{laid};
 ghost use Rattle.printing.specs.Pages.{on};
 
 // The memory, which stays the same one, and where the next byte goes.
+// That it stays the same one is asked at each call, beside the bytes: between two states it is no fact of one page.
 #[derive(Drop)]
 pub struct Page<'a> {
     pub(crate) out: &'a mut [u8],
@@ -41,9 +42,11 @@ impl Page<'_> {
         ensures memory { self.new.out.ghost_name ≡ self.old.out.ghost_name }
     {
         if n < 10 {
+            // The cast is proved to lose nothing; `try_from` would only add an `unwrap`.
             return self.byte(b'0' + n as u8);
         }
         self.number(n / 10);
+        // This cast too is proved to lose nothing; `try_from` would only add an `unwrap`.
         self.byte(b'0' + (n % 10) as u8);
     }
 

@@ -79,6 +79,7 @@ impl fmt::Display for Totals {
 pub fn totalled(boxes: &[BoxRecord]) -> Totals
     ensures { result ≡ totals_of boxes.now }
 {
+    // Three sums of one walk, each held at its greatest: of a `fold` this would want an induction, where the invariant says it.
     let mut panels = 0u64;
     let mut lines = 0u64;
     let mut words = 0u64;

@@ -1,6 +1,9 @@
 // Why a call on a sheet is refused.
 ghost use Rattle.std.specs.Prelude.{◌≡◌};
 ghost use Rattle.rules.specs.Refusals.{number_of};
+ghost use Rattle.rules.specs.declared.refusals.Refusal.TheVariants as R;
+
+use shapes::NoShape;
 
 #[derive(Clone, Copy, PartialEq, Eq, Debug)]
 pub enum Refusal {
@@ -36,5 +39,14 @@ impl Refusal {
         ensures { result ≡ number_of self }
     {
         self as u8
+    }
+}
+
+// Numbers that make no shape.
+impl From<NoShape> for Refusal {
+    ghost from_gives = { λ _ y. y ≡ R.NoShape };
+
+    fn from(_refusal: NoShape) -> Refusal {
+        Refusal::NoShape
     }
 }

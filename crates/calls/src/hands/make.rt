@@ -14,9 +14,7 @@ impl<'a> Hand<'a> {
         ensures slip { result.slip ≡ None }
         ensures scale { cell_of_one result.scale }
     {
-        let Ok(cell) = Cell::new(1) else {
-            unreachable()
-        };
+        let cell = Cell::new(1).unwrap();
         Hand {
             sheet,
             slip: None,

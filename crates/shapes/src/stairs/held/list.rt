@@ -6,7 +6,7 @@ ghost use Rattle.shapes.specs.Steps.{steps_in, few_steps};
 
 use crate::stairs::{MOST_STEPS, Step, Steps};
 
-// No steps.
+// No steps. By hand, since no `Default` can be derived of a struct with a ghost field.
 impl Default for Steps {
     ghost is_default = { λ s. steps_in s ≡ [] };
 

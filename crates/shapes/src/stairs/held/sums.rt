@@ -29,6 +29,7 @@ impl Steps {
     pub(crate) fn extent(&self, k: u32) -> u32
         ensures { result ≡ extent_at (steps_in self.now) k }
     {
+        // By a `for`, since it stops at one step, with what is left of the rows.
         let mut rest = k;
         for step in self.as_slice() {
             let rows = u32::from(step.rows);
