@@ -41,8 +41,7 @@ pub(crate) fn size_of(line: Line<'_>, cells: usize) -> Result<SheetSize, FileFau
 pub(crate) fn scale_of(line: Line<'_>) -> Result<Scale, FileFault>
     ensures { mapped scale_advances result ≡ metric_of (line_of line.entry) }
 {
-    let said = metric_line(line)?;
-    Ok(Scale::new(said.family, said.number)?)
+    Ok(metric_line(line)?.scale()?)
 }
 
 // A staircase.

@@ -18,7 +18,7 @@ use sheet::sizes::SheetSize;
 use text::{Run, Word};
 
 // The most bytes of a file.
-const LONGEST: usize = 32768;
+pub const LONGEST: usize = 32768;
 
 // What comes of a file: the list of its sheet, with the boxes that were set, and the first fault, if there is one. It is no
 // `Result`: the list is handed back in both cases.
@@ -86,6 +86,7 @@ pub fn read<'a>(
         return nothing(cells, list, Located { line: 0, fault });
     }
     let mut cursor = Cursor::new(file);
+    // By a match, since `nothing` takes the cells and the list that the lines below take too.
     let size = match next_size(&mut cursor, cells.len()) {
         Ok(size) => size,
         Err(fault) => return nothing(cells, list, fault),

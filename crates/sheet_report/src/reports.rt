@@ -6,22 +6,14 @@ use fault_lines::tellings::FaultLine;
 use printing::{Printable, print_at_front, wanted};
 use reaches::reach::Reach;
 use rules::boxes::{BoxRecord, LineBox};
+use sheet::MOST_CELLS;
+pub use sheet_file::reading::LONGEST;
 use sheet_file::reading::read;
 use std::alloc::{AllocError, Global};
 use text::{MOST_RUNS, MOST_WORDS, Run, Word};
 
-// The cells that the highest sheet needs, and the places of the list.
-const MOST_CELLS: usize = 8192;
-
+// The places of the list.
 const MOST_PLACES: usize = 1024;
-
-// What stands in a place of the list that is not used.
-const NO_BOX: BoxRecord = BoxRecord::Line(LineBox {
-    x: 0,
-    y: 0,
-    width: 0,
-    words: 0,
-});
 
 // What is printed of this, in memory of just its length.
 fn shown<P: Printable>(heap: Global, item: &P) -> Result<Vec<u8>, AllocError>
@@ -38,7 +30,7 @@ pub fn report(heap: Global, file: &[u8]) -> Result<Vec<u8>, AllocError>
     ensures { IfOk result (λ v. Reports file.now v.items) }
 {
     let mut cells = [Reach::default(); MOST_CELLS];
-    let mut list = [NO_BOX; MOST_PLACES];
+    let mut list = [BoxRecord::Line(LineBox::default()); MOST_PLACES];
     let mut words = [Word::default(); MOST_WORDS];
     let mut runs = [Run::default(); MOST_RUNS];
     let reading = read(file, &mut cells, &mut list, &mut words, &mut runs);
