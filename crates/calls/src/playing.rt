@@ -10,13 +10,10 @@ use crate::replies::{Denied, Reply, Row};
 use lexer::lines::Lines;
 use reaches::reach::Reach;
 use rules::boxes::{BoxRecord, LineBox};
-use sheet::fault;
 use sheet::sheet::Sheet;
+use sheet::{MOST_CELLS, fault};
 use std::alloc::{AllocError, Global};
 use text::{MOST_RUNS, MOST_WORDS, Run, Word};
-
-// The cells that the highest sheet needs.
-const MOST_CELLS: usize = 8192;
 
 // The lines and what is printed stay two arguments: what is printed is handed on without the lines, too.
 

@@ -77,7 +77,8 @@ fn flow<M: Metrics>(
     Ok(Reply::Flowed(sheet.flow(&text, usize::from(passage.from))))
 }
 
-// Ends the open paragraph with its own slip, which is never refused.
+// Ends the open paragraph with its own slip, which is never refused. It stands here and in `sheet_file`, and not at the sheet,
+// whose calls ask nothing of their caller.
 fn spend(sheet: &mut Sheet<'_>, own: Slip)
     requires { open_number sheet.old ≡ Some own.number }
     ensures { Tells (ends own.number) ended sheet.old sheet.new }

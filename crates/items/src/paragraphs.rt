@@ -16,7 +16,8 @@ use metrics::advances::Metrics;
 use sheet::sheet::Sheet;
 use text::{Run, Word};
 
-// Makes the call that the line of an item asks for. A text is measured into these records and cells.
+// Makes the call that the line of an item asks for. A text is measured into these records and cells. They stay two slices,
+// here and above: a slice that is lent keeps its length over a call with no clause, and a struct of two would need one.
 pub fn set_item<M: Metrics>(
     sheet: &mut Sheet<'_>,
     metrics: &M,

@@ -8,6 +8,7 @@
 --     Plan                 the size of the sheet, the paragraphs, and the fault of a line outside of them, if there is one
 --     items_plan S k n ls    the next k lines of ls, the first of which is line n, as items
 --     paras_plan S k n ls    the lines ls as k paragraphs, with nothing behind them
+--     size_said s            the size that the line s says
 --     file_plan ..           a whole file
 -- What stands in a plan behind a paragraph with a fault of its own is never looked at.
 use Rattle.std.specs.Prelude.{ℕ, zero, suc, ◌+◌, ◌-◌, cond, List, [], ◌∷◌, ◌++◌, length, drop, Some, None, Ok, Err, Option, Result, nat_lt}

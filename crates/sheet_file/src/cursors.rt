@@ -7,7 +7,8 @@ use lexer::lines::Lines;
 // How it moves.
 pub(crate) mod calls;
 
-// The lines that are left, and how many were read.
+// The lines that are left, and how many were read: the number is wanted too where no line is left, which `enumerate` does
+// not tell.
 #[derive(Drop)]
 pub struct Cursor<'a> {
     lines: Lines<'a>,

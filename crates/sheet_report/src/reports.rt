@@ -12,7 +12,7 @@ use sheet_file::reading::read;
 use std::alloc::{AllocError, Global};
 use text::{MOST_RUNS, MOST_WORDS, Run, Word};
 
-// The places of the list.
+// The places of the list. Each program lends a list of its own, so the number stands in each.
 const MOST_PLACES: usize = 1024;
 
 // What is printed of this, in memory of just its length.

@@ -32,7 +32,8 @@ fn margins(width: u32, head: ParaLine) -> Span
     }
 }
 
-// Ends the open paragraph with its own slip, which is never refused.
+// Ends the open paragraph with its own slip, which is never refused. It stands here and in `calls`, and not at the sheet,
+// whose calls ask nothing of their caller.
 fn spend(sheet: &mut Sheet<'_>, own: Slip)
     requires { open_number sheet.old ≡ Some own.number }
     ensures told { Tells (ends own.number) ended sheet.old sheet.new }
