@@ -1,5 +1,5 @@
 // The words of a text, one after another. A word is a longest run of ink: of bytes from '!' to '~'.
-ghost use Rattle.std.specs.Prelude.{◌≡◌, ◌≤◌, [], length, IfSome};
+ghost use Rattle.std.specs.Prelude.{◌≡◌, ◌≤◌, [], length, drop, IfSome};
 ghost use Rattle.std.specs.Iterator.{YieldsFirst, item_count};
 ghost use Rattle.words.specs.Words.{ink, words_of, words_left, word_start, word_end, Next, Lies};
 
@@ -17,12 +17,20 @@ fn is_ink(b: u8) -> bool
     matches!(b as char, '!'..='~')
 }
 
+// The bytes of the text from `from` on; none where it ends before.
+// By a slice, since an iterator's `skip` goes over each byte before `from`, and so for each word.
+fn left(text: &[u8], from: usize) -> &[u8]
+    ensures { result.now ≡ drop from text.now }
+{
+    text.get(from..).unwrap_or_default()
+}
+
 // The first offset from `from` on whose byte is ink; where no word is left, the end of the text or past it.
 fn word_start(text: &[u8], from: usize) -> usize
     ensures start { result ≡ word_start text.now from }
     ensures none { length text.now ≤ result → words_left text.now from ≡ [] }
 {
-    from + text.iter().skip(from).take_while(|b| !is_ink(**b)).count()
+    from + left(text, from).iter().take_while(|b| !is_ink(**b)).count()
 }
 
 // The first offset from `from` on whose byte is not ink; where there is none, the end of the text.
@@ -30,7 +38,7 @@ fn word_start(text: &[u8], from: usize) -> usize
 pub fn word_end(text: &[u8], from: usize) -> usize
     ensures { result ≡ word_end text.now from }
 {
-    from + text.iter().skip(from).take_while(|b| is_ink(**b)).count()
+    from + left(text, from).iter().take_while(|b| is_ink(**b)).count()
 }
 
 // The first word of what is left of the text from `from` on. Go on at the word's end for the next one.

@@ -1,7 +1,6 @@
 use Rattle.std.proofs.Common.{◌+◌, drop, rules, tests, ap, ◌∙◌}
 use Rattle.std.proofs.lemmas.List.Folds.{length-prefix_len}
 use Rattle.std.proofs.lemmas.Iterator.{YieldsList-from_slice}
-use Rattle.std.proofs.lemmas.Iterator.Adapters.{YieldsList-from_skip}
 use Rattle.std.proofs.lemmas.Iterator.Consumers.{count_from_yields_List, YieldsList-at}
 use Rattle.std.proofs.lemmas.Iterator.Search.{YieldsList-from_take_while}
 use Rattle.words.specs.Words.{ink}
@@ -12,5 +11,5 @@ returns c =
     let text = c.args.text.now in
     let at = c.args.from in
     ap (λ n. at + n)
-    (count_from_yields_List c.take_while.result _ c.count.ensures.ran (YieldsList-from_take_while _ ink (YieldsList-at c.take_while.ensures.source (YieldsList-from_skip at (YieldsList-from_slice text (cc)) (cc))) c.take_while.ensures.closure c.take_while.ensures.done (λ x b q k. search (rules, tests)))
+    (count_from_yields_List c.take_while.result _ c.count.ensures.ran (YieldsList-from_take_while _ ink (YieldsList-at c.take_while.ensures.source (YieldsList-from_slice (drop at text) (cc))) c.take_while.ensures.closure c.take_while.ensures.done (λ x b q k. search (rules, tests)))
     ∙ length-prefix_len ink (drop at text))
