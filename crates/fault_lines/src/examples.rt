@@ -34,8 +34,10 @@ impl Reason for BadByte {
 fn a_fault_is_told_on_its_line(rt: HostRuntime) -> Result<(), Fail> {
     let read: Result<u8, BadByte> = Err(BadByte(12));
     let located = on_line(3, read).err().ok_or("a fault")?;
+    let shown = format!(in rt.alloc(); "{located}")?;
+    assert!(rt; shown.as_str() == "fault text 3 7 12\n");
     let line = format!(in rt.alloc(); "{}", FaultLine::from(located))?;
-    assert!(rt; line.as_str() == "fault text 3 7 12\n");
+    assert_eq!(rt; line.as_str(), shown.as_str());
     Ok(())
 }
 

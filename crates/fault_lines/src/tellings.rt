@@ -62,3 +62,18 @@ impl fmt::Display for FaultLine {
         write!(f, "fault {layer} {line} {cause} {place}\n")
     }
 }
+
+// A located fault is printed as the line that tells it.
+impl<F: Reason> fmt::Display for Located<F> {
+    ghost output = { λ x. Some (fault_line (told (F.layer_of x.fault) x.line (F.cause_of x.fault) (F.place_of x.fault))) };
+
+    fn fmt<W: fmt::Write>(&self, f: &mut fmt::Formatter<W>) -> fmt::Result {
+        let told = FaultLine {
+            layer: self.fault.layer(),
+            line: self.line,
+            cause: self.fault.cause(),
+            place: self.fault.place(),
+        };
+        write!(f, "{told}")
+    }
+}
