@@ -2,7 +2,7 @@
 ghost use Rattle.std.specs.Prelude.{◌≡◌};
 ghost use Rattle.lexer.specs.LinesLeft.{line_of};
 ghost use Rattle.scales.specs.Headings.{metric_form};
-ghost use Rattle.scales.specs.Scales.{family_advances, made};
+ghost use Rattle.scales.specs.Scales.{family_advances, made, Makes};
 
 use crate::names::FamilyName;
 use crate::{Family, Scale};
@@ -22,7 +22,8 @@ pub struct MetricLine {
 impl MetricLine {
     // The metrics that the line asks for, if there is such a one.
     pub fn scale(self) -> Result<Scale, Unfit>
-        ensures { made result ≡ family_advances self.family self.number }
+        ensures advances { made result ≡ family_advances self.family self.number }
+        ensures kind { Makes self.family self.number result }
     {
         Scale::new(self.family, self.number)
     }

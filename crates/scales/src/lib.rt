@@ -8,7 +8,7 @@ pub mod headings;
 pub mod names;
 
 ghost use Rattle.std.specs.Prelude.{◌≡◌};
-ghost use Rattle.scales.specs.Scales.{family_advances, scale_advances, made};
+ghost use Rattle.scales.specs.Scales.{family_advances, scale_advances, made, Makes};
 ghost use Rattle.scales.specs.Ranges.{scale_ranges};
 
 use metrics::Unfit;
@@ -35,7 +35,8 @@ pub enum Scale {
 impl Scale {
     // The metrics of this family and number: the advance of its cell, 1 to 255, or the size of its table, 1 to 120.
     pub fn new(family: Family, number: u16) -> Result<Scale, Unfit>
-        ensures { made result ≡ family_advances family number }
+        ensures advances { made result ≡ family_advances family number }
+        ensures kind { Makes family number result }
     {
         match family {
             Family::Cell => Ok(Scale::Cell(Cell::new(number)?)),
