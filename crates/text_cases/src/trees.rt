@@ -2,6 +2,7 @@
 use segment_tree::{
     Element, Leaves, NoElement, Tree, enough, leaf_count_is_least, one_longest_run,
 };
+use std::mem;
 use std::test::Fail;
 use text::{Room, Run};
 
@@ -52,6 +53,23 @@ fn laid_and_then_joined(rt: HostRuntime) -> Result<(), Fail> {
     leaves.lay(1, word(2))?;
     assert_eq!(rt; leaves.lay(2, word(3)), Err(NoElement));
     let tree = leaves.join_all();
+    assert_eq!(rt; tree.fold(0, 2).advance, 3);
+    Ok(())
+}
+
+// Lays both elements of a tree that is only lent, and joins them once.
+fn lay_both(tree: &mut Tree<'_, Run>) -> Result<(), NoElement> {
+    let mut leaves = mem::replace(tree, Tree::vacant(&mut [])).leaves();
+    let laid = leaves.lay(0, word(1)).and(leaves.lay(1, word(2)));
+    *tree = leaves.join_all();
+    laid
+}
+
+#[test]
+fn a_lent_tree_is_laid_and_joined(rt: HostRuntime) -> Result<(), Fail> {
+    let mut cells = [Run::default(); 4];
+    let mut tree = Tree::new(&mut cells, 2).ok_or("four cells are enough")?;
+    lay_both(&mut tree)?;
     assert_eq!(rt; tree.fold(0, 2).advance, 3);
     Ok(())
 }
